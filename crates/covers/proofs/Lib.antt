@@ -1,0 +1,13 @@
+pub mod Lists
+pub mod Witnesses
+pub mod Order
+pub mod LowerBound
+pub mod Taken
+pub mod StraightLists
+pub mod Ends
+pub mod Overlaps
+pub mod StraightWitnesses
+pub mod RoundLists
+pub mod SeveralRuns
+pub mod Numbers
+pub mod Equations

@@ -1,0 +1,47 @@
+-- The theorems, in numbers.
+use mathlib.Core.Path.{_≡_}
+use mathlib.Core.Bool.{Bool, true, false, _||_}
+use mathlib.Core.List.{List, [], _∷_, _++_}
+use Prim.Native.Nat.{ℕ, _+_, _-_, _*_, _^_, _≤_, _<_}
+use lib.ListN.{length}
+use Rattle.std.specs.shelf.Lists.{All}
+use Rattle.covers.specs.Digits.{Digits, digits, value}
+use Rattle.covers.specs.Symbols.{Symbols, takes, list-takes}
+use Rattle.covers.specs.Words.{value-word, care-word, symbols}
+use Rattle.covers.specs.Rules.{rows-of-run}
+use Rattle.covers.specs.Rivals.{NumberSet, in-range, Takes-precisely, Rival, Shortest, Within, Witness}
+
+-- digits and back, from either side
+pub record Digits-and-back : Type 0 where
+  pub number-back : (n x : ℕ) → x < 2 ^ n → value (digits n x) ≡ x
+  pub digits-back : (u : Digits) → digits (length u) (value u) ≡ u
+
+-- the words of a row and its symbols, from either side
+pub record Words-and-back : Type 0 where
+  pub symbols-back : (r : Symbols) → symbols (length r) (value-word r) (care-word r) ≡ r
+  pub value-fits : (r : Symbols) → value-word r < 2 ^ length r
+  pub care-fits : (r : Symbols) → care-word r < 2 ^ length r
+
+-- a run at width n: both ends are numbers of the width, and where it goes round it leaves a number out
+pub record Run (n f l : ℕ) : Type 0 where
+  pub first-fits : f < 2 ^ n
+  pub last-fits : l < 2 ^ n
+  pub proper : f ≡ l + 1 → ⊥
+
+-- the list of a run takes just the numbers of the run
+abbrev pub Lists-exact : Type 0
+Lists-exact = (n f l : ℕ) → Run n f l → Takes-precisely n (rows-of-run n f l) (in-range f l)
+
+-- a witness of a set is no longer than any list that takes precisely the set
+abbrev pub Lower-bound : Type 0
+Lower-bound = (n : ℕ) (S : NumberSet) (numbers : List ℕ) (rows : List Symbols) →
+    Witness n S numbers → Takes-precisely n rows S → length numbers ≤ length rows
+
+-- every run has a witness of as many numbers as its list has rows
+abbrev pub Lists-witnessed : Type 0
+Lists-witnessed = (n f l : ℕ) → Run n f l →
+    (numbers : List ℕ) × (length numbers ≡ length (rows-of-run n f l)) × Witness n (in-range f l) numbers
+
+-- no list that takes just the numbers of a run is shorter than ours
+abbrev pub Lists-shortest : Type 0
+Lists-shortest = (n f l : ℕ) → Run n f l → Shortest n (rows-of-run n f l)
