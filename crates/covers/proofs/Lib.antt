@@ -11,3 +11,6 @@ pub mod RoundLists
 pub mod SeveralRuns
 pub mod Numbers
 pub mod Equations
+pub mod Narrowest
+pub mod Exactness
+pub mod Shortness

@@ -185,3 +185,11 @@ previous-value a z =
     let h3 = mirror-value a in
     let p = ap (λ k. 2 ^ k) (sym (length-map a not) ∙ same-length (mirror a) (next (mirror a)) (same-next (mirror a))) in
     omega arith
+
+-- the order of digits as a test of numbers
+pub leq-digits : (m a b : ℕ) → a < 2 ^ m → b < 2 ^ m → leq (digits m a) (digits m b) ≡ leb a b
+leq-digits m a b ha hb = go (leb a b) refl
+  where
+    go : (t : Bool) → leb a b ≡ t → leq (digits m a) (digits m b) ≡ t
+    go true e = le-digits m a b ha hb (leb-true a b e)
+    go false e = lt-digits m a b ha hb (leb-false a b e)

@@ -18,6 +18,11 @@ NumberSet = ℕ → Bool
 abbrev pub in-range : ℕ → ℕ → NumberSet
 in-range f l x = cond (leb f l) (leb f x && leb x l) (leb f x || leb x l)
 
+-- the numbers of several ranges
+abbrev pub in-ranges : List (ℕ × ℕ) → NumberSet
+in-ranges [] x = false
+in-ranges (r ∷ ranges) x = in-range (r .0) (r .1) x || in-ranges ranges x
+
 -- the list takes just the numbers of the set, among those of the width
 abbrev pub Takes-precisely : ℕ → List Symbols → NumberSet → Type 0
 Takes-precisely n rows S = (x : ℕ) → x < 2 ^ n → list-takes rows (digits n x) ≡ S x

@@ -113,3 +113,8 @@ run-last n f l = cond (eqb f (l + 1)) (2 ^ n - 1) l
 -- the list of a range
 abbrev pub rows-of-range : ℕ → ℕ → ℕ → List Symbols
 rows-of-range n f l = rows-of-run n (run-first f l) (run-last n f l)
+
+-- the lists of several runs, one after the other; a run is given by its first and last number
+abbrev pub rows-of-runs : ℕ → List (ℕ × ℕ) → List Symbols
+rows-of-runs n [] = []
+rows-of-runs n (r ∷ runs) = rows-of-run n (r .0) (r .1) ++ rows-of-runs n runs

@@ -1,15 +1,16 @@
 -- The theorems, in numbers.
 use mathlib.Core.Path.{_≡_}
-use mathlib.Core.Bool.{Bool, true, false, _||_}
-use mathlib.Core.List.{List, [], _∷_, _++_}
-use Prim.Native.Nat.{ℕ, _+_, _-_, _*_, _^_, _≤_, _<_}
+use mathlib.Core.Bool.{false}
+use mathlib.Core.Logic.{_⊎_}
+use mathlib.Core.List.{List}
+use Prim.Native.Nat.{ℕ, _+_, _^_, _≤_, _<_}
 use lib.ListN.{length}
 use Rattle.std.specs.shelf.Lists.{All}
 use Rattle.covers.specs.Digits.{Digits, digits, value}
-use Rattle.covers.specs.Symbols.{Symbols, takes, list-takes}
+use Rattle.covers.specs.Symbols.{Symbols}
 use Rattle.covers.specs.Words.{value-word, care-word, symbols}
-use Rattle.covers.specs.Rules.{rows-of-run}
-use Rattle.covers.specs.Rivals.{NumberSet, in-range, Takes-precisely, Rival, Shortest, Within, Witness}
+use Rattle.covers.specs.Rules.{rows-of-run, rows-of-runs}
+use Rattle.covers.specs.Rivals.{NumberSet, in-range, in-ranges, Takes-precisely, Shortest, Within, Witness}
 
 -- digits and back, from either side
 pub record Digits-and-back : Type 0 where
@@ -45,3 +46,13 @@ Lists-witnessed = (n f l : ℕ) → Run n f l →
 -- no list that takes just the numbers of a run is shorter than ours
 abbrev pub Lists-shortest : Type 0
 Lists-shortest = (n f l : ℕ) → Run n f l → Shortest n (rows-of-run n f l)
+
+-- the numbers right beside a run are in none of the runs
+abbrev pub Untouched : ℕ → List (ℕ × ℕ) → ℕ × ℕ → Type 0
+Untouched n runs r = (x : ℕ) → x < 2 ^ n → (x + 1 ≡ r .0) ⊎ (x ≡ r .1 + 1) → in-ranges runs x ≡ false
+
+-- the lists of k runs that do not touch take just the numbers of the runs, and have at most 2 · k times the rows of any rival
+pub record Several-runs : Type 0 where
+  pub exact : (n : ℕ) (runs : List (ℕ × ℕ)) → All (λ r. Run n (r .0) (r .1)) runs → Takes-precisely n (rows-of-runs n runs) (in-ranges runs)
+  pub bounded : (n : ℕ) (runs : List (ℕ × ℕ)) → All (λ r. Run n (r .0) (r .1)) runs → All (Untouched n runs) runs →
+      Within (length runs) n (rows-of-runs n runs)

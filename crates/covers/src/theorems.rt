@@ -1,7 +1,7 @@
 // The theorems, each the contract of a small function.
 ghost use Rattle.covers.specs.Examples.{Examples-hold};
 ghost use Rattle.covers.specs.RuleEquations.{Rule-equations};
-ghost use Rattle.covers.specs.Theorems.{Digits-and-back};
+ghost use Rattle.covers.specs.Theorems.{Digits-and-back, Lists-exact, Lists-shortest, Lists-witnessed, Lower-bound, Several-runs};
 
 fn digits_and_back()
     ensures holds { λ _. ⌜ Digits-and-back ⌝ }
@@ -10,6 +10,31 @@ fn digits_and_back()
 
 fn rules_as_equations()
     ensures holds { λ _. ⌜ Rule-equations ⌝ }
+{
+}
+
+fn lists_are_exact()
+    ensures holds { λ _. ⌜ Lists-exact ⌝ }
+{
+}
+
+fn witness_bounds_every_list()
+    ensures holds { λ _. ⌜ Lower-bound ⌝ }
+{
+}
+
+fn lists_have_witnesses()
+    ensures holds { λ _. ⌜ Lists-witnessed ⌝ }
+{
+}
+
+fn lists_are_shortest()
+    ensures holds { λ _. ⌜ Lists-shortest ⌝ }
+{
+}
+
+fn several_runs_are_exact_and_bounded()
+    ensures holds { λ _. ⌜ Several-runs ⌝ }
 {
 }
 

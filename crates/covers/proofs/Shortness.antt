@@ -1,0 +1,165 @@
+-- No list that takes just the numbers of a run is shorter than ours; and the same, up to a factor, for several runs.
+use mathlib.Core.Path.{_≡_, refl, sym, ap, subst, _∙_}
+use mathlib.Core.Bool.{Bool, true, false, _||_}
+use mathlib.Core.List.{List, [], _∷_, map}
+use mathlib.Core.Logic.{_⊎_, inl, inr}
+use Prim.Native.Nat.{ℕ, suc, _+_, _*_, _^_, _≤_, _<_}
+use native.Mathlib.Nat.{add-comm, add-mul, mul-suc}
+use native.Mathlib.Omega.{arith}
+use lib.Dec.{leb}
+use lib.ListN.{length}
+use Rattle.std.specs.shelf.Lists.{All}
+use Rattle.std.proofs.shelf.Lists.{length-map, length-append}
+use Rattle.std.proofs.shelf.Tests.{both-ways, or-left, or-right, leb-true, leb-false}
+use Rattle.covers.specs.Digits.{Digits, digits, value, leq, all-ones, all-zeros, next}
+use Rattle.covers.specs.Symbols.{Symbols, takes, list-takes}
+use Rattle.covers.specs.Rules.{straight-rows, round-rows, rows-of-run, rows-of-runs}
+use Rattle.covers.specs.Rivals.{NumberSet, in-range, in-ranges, Takes-precisely, Rival, Shortest, Within, narrowest, Parted, Witness}
+use Rattle.covers.specs.Theorems.{Run, Lower-bound, Lists-witnessed, Lists-shortest, Untouched}
+use Rattle.covers.proofs.Lists.{all-mono, all-both, all-map, pairs-map}
+use Rattle.covers.proofs.Witnesses.{Same, previous, within, outer, Exact, Mix, Clash, Witness-of, same-trans, mix-same}
+use Rattle.covers.proofs.Order.{same-next, same-previous}
+use Rattle.covers.proofs.Taken.{taken-append}
+use Rattle.covers.proofs.LowerBound.{at-least}
+use Rattle.covers.proofs.StraightLists.{straight-exact}
+use Rattle.covers.proofs.StraightWitnesses.{witness-straight}
+use Rattle.covers.proofs.RoundLists.{round-exact, witness-round, not-ones}
+use Rattle.covers.proofs.SeveralRuns.{straight-bound, round-bound}
+use Rattle.covers.proofs.Numbers.{value-digits, of-value, value-fits, same-digits, le-digits, lt-digits, next-value, previous-value}
+use Rattle.covers.proofs.Narrowest.{narrowest-takes, takes-narrowest}
+use Rattle.covers.proofs.Exactness.{run-exact, runs-exact}
+
+pub lower-bound : Lower-bound
+lower-bound n S numbers rows W just =
+    at-least (digits n 0) (list-takes rows) rows (length numbers) (λ u s. refl) (record {
+      these = map (digits n) numbers;
+      each = all-map (digits n) (λ u. Same (digits n 0) u × (list-takes rows u ≡ true)) (λ x p. (same-digits n 0 x, just x (p .0) ∙ p .1)) numbers (W .members);
+      apart = pairs-map (digits n) (Clash (list-takes rows))
+          (λ x y p q c. (digits n (c .0), takes-narrowest (digits n x) (digits n y) (digits n (c .0)) (same-digits n x y) (c .2), just (c .0) (c .1) ∙ c .3))
+          numbers (W .members) (W .parted);
+      count = length-map numbers (digits n);
+    })
+
+-- a witness in digits is one in numbers
+in-numbers : (n m : ℕ) (S : NumberSet) (D : Digits → Bool) (rows : List Symbols) → Exact (digits n m) D rows → Takes-precisely n rows S → {k : ℕ} → Witness-of (digits n m) D k →
+    (numbers : List ℕ) × (length numbers ≡ k) × Witness n S numbers
+in-numbers n m S D rows ex just W = (
+  map value (W .these),
+  length-map (W .these) value ∙ W .count,
+  record {
+    members = all-map value (λ x. (x < 2 ^ n) × (S x ≡ true)) (λ u p. (value-fits n m u (p .0), as-set u (p .0) ∙ p .1)) (W .these) (W .each);
+    parted = pairs-map value (Parted n S)
+        (λ u v p q (c : Clash D u v).
+        let s = mix-same (digits n m) u v (c .0) (p .0) (c .1) in (
+          value (c .0),
+          value-fits n m (c .0) s,
+          rw (of-value n m u (p .0), of-value n m v (q .0), of-value n m (c .0) s) (narrowest-takes u v (c .0) (c .1)),
+          as-set (c .0) s ∙ c .2,
+        ))
+        (W .these) (W .each) (W .apart);
+  },
+)
+  where
+    as-set : (u : Digits) → Same (digits n m) u → S (value u) ≡ D u
+    as-set u s = sym (just (value u) (value-fits n m u s)) ∙ ap (list-takes rows) (of-value n m u s) ∙ ex u s
+
+far-digits : (n f l : ℕ) → f < 2 ^ n → l + 1 < f → leq (digits n f) (next (digits n l)) ≡ false
+far-digits n f l hf h =
+    let hl : l < 2 ^ n = omega arith in
+    let s = same-trans (digits n f) (digits n l) (next (digits n l)) (same-digits n f l) (same-next (digits n l)) in
+    let e = of-value n f (next (digits n l)) s in
+    let v = next-value (digits n l) (not-ones (digits n f) (digits n l) (same-digits n f l) (lt-digits n f l hf hl (omega arith))) in
+    let w = value-digits n l hl in
+    let fits = value-fits n f (next (digits n l)) s in
+    subst (λ u. leq (digits n f) u ≡ false) e (lt-digits n f (value (next (digits n l))) hf fits (omega arith))
+
+pub witnessed : Lists-witnessed
+witnessed n f l r = go (leb f l) refl (run-exact n f l r)
+  where
+    go : (t : Bool) → leb f l ≡ t → Takes-precisely n (rows-of-run n f l) (in-range f l) →
+        (numbers : List ℕ) × (length numbers ≡ length (rows-of-run n f l)) × Witness n (in-range f l) numbers
+    go true e just =
+        let o = le-digits n f l (r .first-fits) (r .last-fits) (leb-true f l e) in
+        let s = same-digits n f l in
+        in-numbers n f (in-range f l) (within (digits n f) (digits n l)) (rows-of-run n f l)
+        (rw e (straight-exact (digits n f) (digits n l) s o)) just (rw e (witness-straight (digits n f) (digits n l) s o))
+    go false e just =
+        let k = leb-false f l e in
+        let no = r .proper in
+        let far : l + 1 < f = omega arith in
+        let o = lt-digits n f l (r .first-fits) (r .last-fits) k in
+        let s = same-digits n f l in
+        in-numbers n f (in-range f l) (outer (digits n f) (digits n l)) (rows-of-run n f l)
+        (rw e (round-exact (digits n f) (digits n l) s o)) just (rw e (witness-round (digits n f) (digits n l) s o (far-digits n f l (r .first-fits) far)))
+
+pub shortest : Lists-shortest
+shortest n f l r other R =
+    let W = witnessed n f l r in
+    subst (λ k. k ≤ length other) (W .1)
+    (lower-bound n (in-range f l) (W .0) other (W .2) (λ x hx. R .same-numbers x hx ∙ run-exact n f l r x hx))
+
+-- several runs
+module _ (n : ℕ) (runs : List (ℕ × ℕ)) (all : All (λ r. Run n (r .0) (r .1)) runs) where
+  -- a number in no run is not taken
+  not-taken : (u : Digits) → Same (digits n 0) u → in-ranges runs (value u) ≡ false → list-takes (rows-of-runs n runs) u ≡ false
+  not-taken u s out =
+      ap (list-takes (rows-of-runs n runs)) (sym (of-value n 0 u s)) ∙ runs-exact n runs all (value u) (value-fits n 0 u s) ∙ out
+
+  before : (a : ℕ) → a < 2 ^ n → all-zeros (digits n a) ≡ false → ((x : ℕ) → x < 2 ^ n → x + 1 ≡ a → in-ranges runs x ≡ false) →
+      list-takes (rows-of-runs n runs) (previous (digits n a)) ≡ false
+  before a ha z f =
+      let s = same-trans (digits n 0) (digits n a) (previous (digits n a)) (same-digits n 0 a) (same-previous (digits n a)) in
+      not-taken (previous (digits n a)) s (f (value (previous (digits n a))) (value-fits n 0 (previous (digits n a)) s) (previous-value (digits n a) z ∙ value-digits n a ha))
+
+  after : (b : ℕ) → b < 2 ^ n → all-ones (digits n b) ≡ false → ((x : ℕ) → x < 2 ^ n → x ≡ b + 1 → in-ranges runs x ≡ false) →
+      list-takes (rows-of-runs n runs) (next (digits n b)) ≡ false
+  after b hb o f =
+      let s = same-trans (digits n 0) (digits n b) (next (digits n b)) (same-digits n 0 b) (same-next (digits n b)) in
+      not-taken (next (digits n b)) s (f (value (next (digits n b))) (value-fits n 0 (next (digits n b)) s) (next-value (digits n b) o ∙ ap (λ k. k + 1) (value-digits n b hb)))
+
+  -- one run against a rival of all
+  run-bound : (other : List Symbols) → Exact (digits n 0) (list-takes (rows-of-runs n runs)) other → (r : ℕ × ℕ) → Run n (r .0) (r .1) → Untouched n runs r →
+      ((w : Digits) → list-takes (rows-of-run n (r .0) (r .1)) w ≡ true → list-takes (rows-of-runs n runs) w ≡ true) →
+      length (rows-of-run n (r .0) (r .1)) ≤ 2 * length other
+  run-bound other ex (f , l) R un among = go (leb f l) refl
+    where
+      s : Same (digits n f) (digits n l)
+      s = same-digits n f l
+
+      go : (t : Bool) → leb f l ≡ t → length (rows-of-run n f l) ≤ 2 * length other
+      go true e =
+          let o = le-digits n f l (R .first-fits) (R .last-fits) (leb-true f l e) in
+          rw e (straight-bound (digits n 0) (list-takes (rows-of-runs n runs)) other ex (digits n f) (digits n l) (same-digits n 0 f) (same-digits n 0 l) s
+          (λ z. before f (R .first-fits) z (λ x hx k. un x hx (inl k))) (λ z. after l (R .last-fits) z (λ x hx k. un x hx (inr k))) o
+          (λ w t k. among w (rw e (straight-exact (digits n f) (digits n l) s o w (same-trans (digits n f) (digits n 0) w (same-digits n f 0) t) ∙ k))))
+      go false e =
+          let o = lt-digits n f l (R .first-fits) (R .last-fits) (leb-false f l e) in
+          rw e (round-bound (digits n 0) (list-takes (rows-of-runs n runs)) other ex (digits n f) (digits n l) (same-digits n 0 f) (same-digits n 0 l) s
+          (λ z. before f (R .first-fits) z (λ x hx k. un x hx (inl k))) (λ z. after l (R .last-fits) z (λ x hx k. un x hx (inr k))) o
+          (λ w t k. among w (rw e (round-exact (digits n f) (digits n l) s o w (same-trans (digits n f) (digits n 0) w (same-digits n f 0) t) ∙ k))))
+
+-- each run's numbers are among those of all
+among : (n : ℕ) (runs : List (ℕ × ℕ)) → All (λ r. (w : Digits) → list-takes (rows-of-run n (r .0) (r .1)) w ≡ true → list-takes (rows-of-runs n runs) w ≡ true) runs
+among n [] = tt
+among n (r ∷ runs) = (
+  (λ w h. taken-append (rows-of-run n (r .0) (r .1)) (rows-of-runs n runs) w ∙ or-left (list-takes (rows-of-run n (r .0) (r .1)) w) (list-takes (rows-of-runs n runs) w) h),
+  all-mono {P = λ q. (w : Digits) → list-takes (rows-of-run n (q .0) (q .1)) w ≡ true → list-takes (rows-of-runs n runs) w ≡ true}
+      {Q = λ q. (w : Digits) → list-takes (rows-of-run n (q .0) (q .1)) w ≡ true → list-takes (rows-of-runs n (r ∷ runs)) w ≡ true}
+      (λ q f w h. taken-append (rows-of-run n (r .0) (r .1)) (rows-of-runs n runs) w ∙ or-right (list-takes (rows-of-run n (r .0) (r .1)) w) (list-takes (rows-of-runs n runs) w) (f w h)) runs (among n runs),
+)
+
+total : (n k : ℕ) (runs : List (ℕ × ℕ)) → All (λ r. length (rows-of-run n (r .0) (r .1)) ≤ 2 * k) runs → length (rows-of-runs n runs) ≤ 2 * length runs * k
+total n k [] h = omega arith
+total n k (r ∷ runs) h =
+    let h1 = total n k runs (h .1) in
+    let h2 = h .0 in
+    let h3 = length-append (rows-of-run n (r .0) (r .1)) (rows-of-runs n runs) in
+    let h4 : 2 * suc (length runs) * k ≡ 2 * k + 2 * length runs * k = ap (λ j. j * k) (mul-suc 2 (length runs)) ∙ add-mul (2 * length runs) 2 k ∙ add-comm (2 * length runs * k) (2 * k) in
+    omega arith
+
+pub bounded : (n : ℕ) (runs : List (ℕ × ℕ)) → All (λ r. Run n (r .0) (r .1)) runs → All (Untouched n runs) runs → Within (length runs) n (rows-of-runs n runs)
+bounded n runs all un other R =
+    let ex : Exact (digits n 0) (list-takes (rows-of-runs n runs)) other = λ u s.
+        ap (list-takes other) (sym (of-value n 0 u s)) ∙ R .same-numbers (value u) (value-fits n 0 u s) ∙ ap (list-takes (rows-of-runs n runs)) (of-value n 0 u s) in
+    total n (length other) runs
+    (all-both {P = λ r. Run n (r .0) (r .1) × Untouched n runs r} (λ r p f. run-bound n runs all other ex r (p .0) (p .1) f) runs (all-both (λ r p q. (p, q)) runs all un) (among n runs))
