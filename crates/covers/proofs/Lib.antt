@@ -14,3 +14,6 @@ pub mod Equations
 pub mod Narrowest
 pub mod Exactness
 pub mod Shortness
+pub mod RowWords
+pub mod RowLengths
+pub mod RowCounts

@@ -2,7 +2,7 @@
 -- Digits recurse from the first, so each rule is a clause; RuleEquations says the same of numbers.
 use mathlib.Core.Bool.{Bool, true, false, cond}
 use mathlib.Core.List.{List, [], _∷_, _++_, map}
-use Prim.Native.Nat.{ℕ, _+_, _-_, _^_}
+use Prim.Native.Nat.{ℕ, _+_, _-_, _*_, _^_}
 use lib.Dec.{leb, eqb}
 use Rattle.covers.specs.declared.symbol.Symbol.{Symbol}
 use Rattle.covers.specs.declared.symbol.Symbol.the-variants.{Zero, One, Dash}
@@ -102,6 +102,10 @@ round-rows m f l = round (digits m f) (digits m l)
 -- the list of a run: straight if its first number is not above its last, else round
 abbrev pub rows-of-run : ℕ → ℕ → ℕ → List Symbols
 rows-of-run n f l = cond (leb f l) (straight-rows n f l) (round-rows n f l)
+
+-- the most rows that a run can need: one at width 1, and 2n − 2 from width 2 on
+abbrev pub most-rows : ℕ → ℕ
+most-rows n = cond (leb n 1) 1 (2 * n - 2)
 
 -- the one run of a range: a range that goes round and leaves no number out is the whole circle
 abbrev pub run-first : ℕ → ℕ → ℕ

@@ -4,12 +4,14 @@ use mathlib.Core.Bool.{false}
 use mathlib.Core.Logic.{_⊎_}
 use mathlib.Core.List.{List}
 use Prim.Native.Nat.{ℕ, _+_, _^_, _≤_, _<_}
+use lib.Bits.{bitAnd}
+use lib.Dec.{eqb}
 use lib.ListN.{length}
 use Rattle.std.specs.shelf.Lists.{All}
 use Rattle.covers.specs.Digits.{Digits, digits, value}
-use Rattle.covers.specs.Symbols.{Symbols}
+use Rattle.covers.specs.Symbols.{Symbols, takes}
 use Rattle.covers.specs.Words.{value-word, care-word, symbols}
-use Rattle.covers.specs.Rules.{rows-of-run, rows-of-runs}
+use Rattle.covers.specs.Rules.{rows-of-run, rows-of-runs, most-rows}
 use Rattle.covers.specs.Rivals.{NumberSet, in-range, in-ranges, Takes-precisely, Shortest, Within, Witness}
 
 -- digits and back, from either side
@@ -17,11 +19,15 @@ pub record Digits-and-back : Type 0 where
   pub number-back : (n x : ℕ) → x < 2 ^ n → value (digits n x) ≡ x
   pub digits-back : (u : Digits) → digits (length u) (value u) ≡ u
 
--- the words of a row and its symbols, from either side
+-- the words of a row and its symbols, from either side; and what a row takes, by its words
 pub record Words-and-back : Type 0 where
   pub symbols-back : (r : Symbols) → symbols (length r) (value-word r) (care-word r) ≡ r
   pub value-fits : (r : Symbols) → value-word r < 2 ^ length r
   pub care-fits : (r : Symbols) → care-word r < 2 ^ length r
+  pub words-back : (n value care : ℕ) → value < 2 ^ n → care < 2 ^ n → bitAnd value care ≡ value →
+      (value-word (symbols n value care) ≡ value) × (care-word (symbols n value care) ≡ care)
+  pub takes-by-mask : (n value care x : ℕ) → value < 2 ^ n → care < 2 ^ n → bitAnd value care ≡ value →
+      takes (symbols n value care) (digits n x) ≡ eqb (bitAnd x care) value
 
 -- a run at width n: both ends are numbers of the width, and where it goes round it leaves a number out
 pub record Run (n f l : ℕ) : Type 0 where
@@ -32,6 +38,10 @@ pub record Run (n f l : ℕ) : Type 0 where
 -- the list of a run takes just the numbers of the run
 abbrev pub Lists-exact : Type 0
 Lists-exact = (n f l : ℕ) → Run n f l → Takes-precisely n (rows-of-run n f l) (in-range f l)
+
+-- a run needs one row at width 1, and at most 2n − 2 from width 2 on
+abbrev pub Lists-few : Type 0
+Lists-few = (n f l : ℕ) → 1 ≤ n → length (rows-of-run n f l) ≤ most-rows n
 
 -- a witness of a set is no longer than any list that takes precisely the set
 abbrev pub Lower-bound : Type 0
