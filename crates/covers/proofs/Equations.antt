@@ -17,7 +17,7 @@ use Rattle.covers.proofs.Overlaps.{across-middle, across-zeros, across-ones}
 use Rattle.covers.proofs.Ends.{below-zeros}
 use Rattle.covers.proofs.Numbers.{value-digits, of-value, value-fits, same-digits, digits-0, digits-1, length-digits, le-digits, lt-digits, next-value, previous-value, ones-value, mirror-value}
 
-plain-digits : (m n : ℕ) → dashes (digits m n) ≡ plain m
+pub plain-digits : (m n : ℕ) → dashes (digits m n) ≡ plain m
 plain-digits zero n = refl
 plain-digits (suc m) n = ap (λ r. Dash ∷ r) (plain-digits m n)
 
@@ -96,7 +96,7 @@ dashes-same [] (y ∷ v) s = absurd s
 dashes-same (x ∷ u) [] s = absurd s
 dashes-same (x ∷ u) (y ∷ v) s = ap (λ r. Dash ∷ r) (dashes-same u v s)
 
-swap-dashes : (u : Digits) → map swap (dashes u) ≡ dashes u
+pub swap-dashes : (u : Digits) → map swap (dashes u) ≡ dashes u
 swap-dashes [] = refl
 swap-dashes (x ∷ u) = ap (λ r. Dash ∷ r) (swap-dashes u)
 

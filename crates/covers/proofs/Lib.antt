@@ -17,3 +17,4 @@ pub mod Shortness
 pub mod RowWords
 pub mod RowLengths
 pub mod RowCounts
+pub mod Masks

@@ -21,17 +21,17 @@ use Rattle.covers.proofs.Numbers.{same-length, same-digits, length-digits}
 abbrev pub Long : ℕ → List Symbols → Type 0
 Long n rows = All (λ r. length r ≡ n) rows
 
-long-map : (f : Symbols → Symbols) (n k : ℕ) → ((r : Symbols) → length r ≡ n → length (f r) ≡ k) → (rows : List Symbols) → Long n rows → Long k (map f rows)
+pub long-map : (f : Symbols → Symbols) (n k : ℕ) → ((r : Symbols) → length r ≡ n → length (f r) ≡ k) → (rows : List Symbols) → Long n rows → Long k (map f rows)
 long-map f n k g rows h = all-map f (λ r. length r ≡ k) g rows h
 
-long-join : (n : ℕ) (l k : List Symbols) → Long n l → Long n k → Long n (l ++ k)
+pub long-join : (n : ℕ) (l k : List Symbols) → Long n l → Long n k → Long n (l ++ k)
 long-join n l k h j = all-join (λ r. length r ≡ n) l k h j
 
 pub dashes-long : (u : Digits) → length (dashes u) ≡ length u
 dashes-long [] = refl
 dashes-long (x ∷ u) = ap suc (dashes-long u)
 
-below-long : (c : Digits) → Long (length c) (below c)
+pub below-long : (c : Digits) → Long (length c) (below c)
 below-long [] = tt
 below-long (true ∷ c) = (ap suc (dashes-long c), long-map (λ r. One ∷ r) (length c) (suc (length c)) (λ r e. ap suc e) (below c) (below-long c))
 below-long (false ∷ c) = long-map (λ r. Zero ∷ r) (length c) (suc (length c)) (λ r e. ap suc e) (below c) (below-long c)

@@ -1,0 +1,8 @@
+// Widths, rows, and the rows of a range.
+pub mod refusal;
+pub mod width;
+pub mod row;
+pub mod row_words;
+mod lead;
+mod ends;
+mod across;
