@@ -18,3 +18,4 @@ pub mod RowWords
 pub mod RowLengths
 pub mod RowCounts
 pub mod Masks
+pub mod RangeLists

@@ -5,7 +5,7 @@ use mathlib.Core.List.{List, [], _∷_, map}
 use Prim.Native.Nat.{ℕ, zero, suc, _+_, _*_, _/_, _%_, _^_, _≤_, _<_}
 use native.Mathlib.Nat.{mod-lt, le-of-suc-le-suc, not-suc-le-zero, zero-lt-suc}
 use native.Mathlib.Omega.{arith}
-use lib.Bits.{bitAnd, and-shr, and-mod, and-lt, and-le-r}
+use lib.Bits.{bitAnd, and-shr, and-mod, and-block, and-le-r}
 use lib.Dec.{eqb}
 use lib.ListN.{length}
 use lib.Pow.{pow-pos}
@@ -202,3 +202,20 @@ words-back n v c hv hc clean = (
 
     paired-values : (v c : Digits) → Same v c → both v c ≡ v → map value-digit (paired v c) ≡ v
     paired-values v c s e = paired-both v c s ∙ e
+
+-- the value has no 1 where the row does not care
+clean-one : (k x y v c : ℕ) → v < 2 ^ k → c < 2 ^ k → bitAnd x y ≡ x → bitAnd v c ≡ v → bitAnd (x * 2 ^ k + v) (y * 2 ^ k + c) ≡ x * 2 ^ k + v
+clean-one k x y v c hv hc e f = and-block k x y v c hv hc ∙ ap₂ (λ p q. p * 2 ^ k + q) e f
+
+pub clean-word : (r : Symbols) → bitAnd (value-word r) (care-word r) ≡ value-word r
+clean-word [] = refl
+clean-word (Zero ∷ r) =
+    let k = length r in
+    let none : value-word r ≡ 0 * 2 ^ length r + value-word r = omega arith in
+    let one : 2 ^ length r + care-word r ≡ 1 * 2 ^ length r + care-word r = omega arith in
+    ap₂ bitAnd none one ∙ clean-one (length r) 0 1 (value-word r) (care-word r) (value-word-fits r) (care-word-fits r) refl (clean-word r) ∙ sym none
+clean-word (One ∷ r) =
+    let v : 2 ^ length r + value-word r ≡ 1 * 2 ^ length r + value-word r = omega arith in
+    let c : 2 ^ length r + care-word r ≡ 1 * 2 ^ length r + care-word r = omega arith in
+    ap₂ bitAnd v c ∙ clean-one (length r) 1 1 (value-word r) (care-word r) (value-word-fits r) (care-word-fits r) refl (clean-word r) ∙ sym v
+clean-word (Dash ∷ r) = clean-word r

@@ -115,7 +115,7 @@ abbrev pub run-last : ℕ → ℕ → ℕ → ℕ
 run-last n f l = cond (eqb f (l + 1)) (2 ^ n - 1) l
 
 -- the list of a range
-abbrev pub rows-of-range : ℕ → ℕ → ℕ → List Symbols
+unfoldable pub rows-of-range : ℕ → ℕ → ℕ → List Symbols
 rows-of-range n f l = rows-of-run n (run-first f l) (run-last n f l)
 
 -- the lists of several runs, one after the other; a run is given by its first and last number

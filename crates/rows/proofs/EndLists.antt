@@ -91,7 +91,7 @@ left-at-zero front rest e p c h d x =
     let s : suc (p - 1) ≡ p = omega arith in
     ap (λ k. left-rows front e k c) (sym s) ∙ below-step-0 front rest e (p - 1) c d x
 
-abbrev extend : RowWords → ℕ → Bool → RowWords
+abbrev pub extend : RowWords → ℕ → Bool → RowWords
 extend front m d = record { value = front .value + cond d (2 ^ m) 0; care = front .care + 2 ^ m }
 
 pub some-left : (front : RowWords) (e : Bool) (p c : ℕ) → 0 < p → digit (p - 1) c ≡ true → 0 < length (left-rows front e p c)

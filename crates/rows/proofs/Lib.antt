@@ -2,3 +2,5 @@ pub mod Writing
 pub mod Fronts
 pub mod EndLists
 pub mod AcrossLists
+pub mod RunLists
+pub mod Widths

@@ -1,6 +1,6 @@
 -- How lists of rows are written down: terms for the contracts of the private functions.
 use mathlib.Core.Path.{_≡_}
-use mathlib.Core.Bool.{Bool, false, cond}
+use mathlib.Core.Bool.{Bool, false, not, cond}
 use mathlib.Core.List.{List, [], _∷_, _++_, map}
 use Prim.Native.Nat.{ℕ, suc, _+_, _-_, _^_, _≤_}
 use lib.ListN.{length, take, drop}
@@ -60,6 +60,12 @@ pub record Widened (lead inner : Lead) (m : ℕ) : Type 0 where
   pub at-zero : Extended (lead .dash) (inner .zero) m false
   pub at-one : inner .one ≡ lead .one
   pub at-dash : inner .dash ≡ lead .dash
+
+-- the lead of rows that begin behind a front, whose first symbols are exchanged or stay
+pub record Begun (front : RowWords) (lead : Lead) (m : ℕ) (exchanged : Bool) : Type 0 where
+  pub at-zero : Extended front (lead .zero) m exchanged
+  pub at-one : Extended front (lead .one) m (not exchanged)
+  pub at-dash : lead .dash ≡ front
 
 -- the list of 0a to 1b, both with m digits behind the first
 unfoldable pub across-rows : ℕ → ℕ → ℕ → List Symbols

@@ -1,3 +1,4 @@
 pub mod Refusals
 pub mod Widths
+pub mod RangeRows
 pub mod Building

@@ -6,3 +6,7 @@ pub mod row_words;
 mod lead;
 mod ends;
 mod across;
+mod straight;
+mod round;
+mod run;
+pub mod range;

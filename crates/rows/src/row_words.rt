@@ -1,6 +1,7 @@
 // A row in memory.
-ghost use Prim.Native.Nat.{_+_, _^_, _<_};
-ghost use Rattle.rows.specs.Building.{Extended};
+ghost use mathlib.Core.Path.{_≡_};
+ghost use Prim.Native.Nat.{_+_, _-_, _%_, _^_, _≤_, _<_};
+ghost use Rattle.rows.specs.Building.{Extended, Free};
 
 // A row as it lies in memory: a plain pair of words, of which any two make a row.
 #[derive(Clone, Copy, PartialEq, Eq, Debug)]
@@ -20,5 +21,21 @@ impl RowWords {
         let bit = 1u32 << place;
         let value = if digit { self.value + bit } else { self.value };
         RowWords { value, care: self.care + bit }
+    }
+
+    // The row with the digits of a number in the place of the dashes from one place up to another.
+    pub(super) fn with_digits(self, number: u64, from: u32, to: u32) -> RowWords
+        requires order { ⌜ from ≤ to ⌝ }
+        requires to_within { ⌜ to ≤ 32 ⌝ }
+        requires number_within { ⌜ number < 2 ^ to ⌝ }
+        requires free { ⌜ Free to self ⌝ }
+        ensures value { λ r. ⌜ r .value ≡ self .value + (number - number % 2 ^ from) ⌝ }
+        ensures care { λ r. ⌜ r .care ≡ self .care + (2 ^ to - 2 ^ from) ⌝ }
+        ensures free { λ r. ⌜ Free from r ⌝ }
+    {
+        let step = 1u64 << from;
+        let value = self.value + (number - number % step) as u32;
+        let care = self.care + ((1u64 << to) - step) as u32;
+        RowWords { value, care }
     }
 }

@@ -1,5 +1,7 @@
 use mathlib.Core.Path.{refl}
+use Rattle.covers.specs.Rules.{rows-of-range}
 use Rattle.covers.proofs.theorems.worked_examples.Needs as need
 
 pub returns : need.returns
+unfolding rows-of-range
 returns c = record { holds = refl }
