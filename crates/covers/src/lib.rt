@@ -1,3 +1,3 @@
 // Theory: digits, symbols, rows, the row rules, and the theorems about them.
 pub mod symbol;
-mod theorems;
+pub mod theorems;

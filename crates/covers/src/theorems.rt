@@ -1,5 +1,7 @@
 // The theorems, each the contract of a small function.
-ghost use Rattle.covers.specs.Examples.{Examples-hold};
+ghost use mathlib.Core.Path.{_≡_};
+ghost use lib.ListN.{length};
+ghost use Rattle.covers.specs.Examples.{Examples-hold, examples};
 ghost use Rattle.covers.specs.RuleEquations.{Rule-equations};
 ghost use Rattle.covers.specs.Theorems.{Digits-and-back, Words-and-back, Lists-exact, Lists-few, Lists-shortest, Lists-witnessed, Lower-bound, Several-runs};
 
@@ -38,11 +40,6 @@ fn several_runs_are_exact_and_bounded()
 {
 }
 
-pub fn worked_examples()
-    ensures holds { λ _. ⌜ Examples-hold ⌝ }
-{
-}
-
 fn words_and_back()
     ensures holds { λ _. ⌜ Words-and-back ⌝ }
 {
@@ -51,4 +48,18 @@ fn words_and_back()
 fn lists_are_few()
     ensures holds { λ _. ⌜ Lists-few ⌝ }
 {
+}
+
+fn examples_follow_the_rules()
+    ensures holds { λ _. ⌜ Examples-hold ⌝ }
+{
+}
+
+// How many ranges the table of worked examples has, each with the rows that the rules give it.
+pub fn worked_examples() -> usize
+    ensures count { λ r. ⌜ r ≡ length examples ⌝ }
+    ensures hold { λ _. ⌜ Examples-hold ⌝ }
+{
+    examples_follow_the_rules();
+    10
 }

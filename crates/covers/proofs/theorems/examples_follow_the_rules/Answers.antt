@@ -1,6 +1,6 @@
 use mathlib.Core.Path.{refl}
 use Rattle.covers.specs.Rules.{rows-of-range}
-use Rattle.covers.proofs.theorems.worked_examples.Needs as need
+use Rattle.covers.proofs.theorems.examples_follow_the_rules.Needs as need
 
 pub returns : need.returns
 unfolding rows-of-range
