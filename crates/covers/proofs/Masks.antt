@@ -26,12 +26,12 @@ digit-assoc (suc (suc x)) y z hx hy hz = not-digit hx
 pub and-assoc : (a b c : ℕ) → bitAnd (bitAnd a b) c ≡ bitAnd a (bitAnd b c)
 and-assoc =
     bin-ind (λ (n : ℕ). (b c : ℕ) → bitAnd (bitAnd n b) c ≡ bitAnd n (bitAnd b c)) (λ b c. refl)
-      (λ n ih b c. by-digits
-        (and-shr (bitAnd n b) c 1 ∙ ap (λ (x : ℕ). bitAnd x (c / 2)) (and-shr n b 1) ∙ ih (b / 2) (c / 2)
-          ∙ sym (and-shr n (bitAnd b c) 1 ∙ ap (bitAnd (n / 2)) (and-shr b c 1)))
-        (and-mod (bitAnd n b) c 1 ∙ ap (λ (x : ℕ). bitAnd x (c % 2)) (and-mod n b 1)
-          ∙ digit-assoc (n % 2) (b % 2) (c % 2) (mod-lt n two-pos) (mod-lt b two-pos) (mod-lt c two-pos)
-          ∙ sym (and-mod n (bitAnd b c) 1 ∙ ap (bitAnd (n % 2)) (and-mod b c 1))))
+    (λ n ih b c. by-digits
+    (and-shr (bitAnd n b) c 1 ∙ ap (λ (x : ℕ). bitAnd x (c / 2)) (and-shr n b 1) ∙ ih (b / 2) (c / 2)
+    ∙ sym (and-shr n (bitAnd b c) 1 ∙ ap (bitAnd (n / 2)) (and-shr b c 1)))
+    (and-mod (bitAnd n b) c 1 ∙ ap (λ (x : ℕ). bitAnd x (c % 2)) (and-mod n b 1)
+    ∙ digit-assoc (n % 2) (b % 2) (c % 2) (mod-lt n two-pos) (mod-lt b two-pos) (mod-lt c two-pos)
+    ∙ sym (and-mod n (bitAnd b c) 1 ∙ ap (bitAnd (n % 2)) (and-mod b c 1))))
 
 pub and-again : (a c : ℕ) → bitAnd (bitAnd a c) c ≡ bitAnd a c
 and-again a c = and-assoc a c c ∙ ap (bitAnd a) (and-self c)

@@ -39,4 +39,3 @@ takes-narrowest (true ∷ u) (false ∷ v) (false ∷ w) s h = (inr refl, takes-
 takes-narrowest (true ∷ u) (false ∷ v) (true ∷ w) s h = (inl refl, takes-narrowest u v w s h)
 takes-narrowest (true ∷ u) (true ∷ v) (true ∷ w) s h = (inl refl, takes-narrowest u v w s h)
 takes-narrowest (true ∷ u) (true ∷ v) (false ∷ w) s h = absurd (both-ways false refl h)
-

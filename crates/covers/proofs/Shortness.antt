@@ -121,7 +121,7 @@ module _ (n : ℕ) (runs : List (ℕ × ℕ)) (all : All (λ r. Run n (r .0) (r 
   run-bound : (other : List Symbols) → Exact (digits n 0) (list-takes (rows-of-runs n runs)) other → (r : ℕ × ℕ) → Run n (r .0) (r .1) → Untouched n runs r →
       ((w : Digits) → list-takes (rows-of-run n (r .0) (r .1)) w ≡ true → list-takes (rows-of-runs n runs) w ≡ true) →
       length (rows-of-run n (r .0) (r .1)) ≤ 2 * length other
-  run-bound other ex (f , l) R un among = go (leb f l) refl
+  run-bound other ex (f, l) R un among = go (leb f l) refl
     where
       s : Same (digits n f) (digits n l)
       s = same-digits n f l
@@ -160,6 +160,6 @@ total n k (r ∷ runs) h =
 pub bounded : (n : ℕ) (runs : List (ℕ × ℕ)) → All (λ r. Run n (r .0) (r .1)) runs → All (Untouched n runs) runs → Within (length runs) n (rows-of-runs n runs)
 bounded n runs all un other R =
     let ex : Exact (digits n 0) (list-takes (rows-of-runs n runs)) other = λ u s.
-        ap (list-takes other) (sym (of-value n 0 u s)) ∙ R .same-numbers (value u) (value-fits n 0 u s) ∙ ap (list-takes (rows-of-runs n runs)) (of-value n 0 u s) in
+    ap (list-takes other) (sym (of-value n 0 u s)) ∙ R .same-numbers (value u) (value-fits n 0 u s) ∙ ap (list-takes (rows-of-runs n runs)) (of-value n 0 u s) in
     total n (length other) runs
     (all-both {P = λ r. Run n (r .0) (r .1) × Untouched n runs r} (λ r p f. run-bound n runs all other ex r (p .0) (p .1) f) runs (all-both (λ r p q. (p, q)) runs all un) (among n runs))

@@ -7,53 +7,43 @@ ghost use Rattle.covers.specs.Theorems.{Digits-and-back, Words-and-back, Lists
 
 fn digits_and_back()
     ensures holds { λ _. ⌜ Digits-and-back ⌝ }
-{
-}
+{}
 
 fn rules_as_equations()
     ensures holds { λ _. ⌜ Rule-equations ⌝ }
-{
-}
+{}
 
 fn lists_are_exact()
     ensures holds { λ _. ⌜ Lists-exact ⌝ }
-{
-}
+{}
 
 fn witness_bounds_every_list()
     ensures holds { λ _. ⌜ Lower-bound ⌝ }
-{
-}
+{}
 
 fn lists_have_witnesses()
     ensures holds { λ _. ⌜ Lists-witnessed ⌝ }
-{
-}
+{}
 
 fn lists_are_shortest()
     ensures holds { λ _. ⌜ Lists-shortest ⌝ }
-{
-}
+{}
 
 fn several_runs_are_exact_and_bounded()
     ensures holds { λ _. ⌜ Several-runs ⌝ }
-{
-}
+{}
 
 fn words_and_back()
     ensures holds { λ _. ⌜ Words-and-back ⌝ }
-{
-}
+{}
 
 fn lists_are_few()
     ensures holds { λ _. ⌜ Lists-few ⌝ }
-{
-}
+{}
 
 fn examples_follow_the_rules()
     ensures holds { λ _. ⌜ Examples-hold ⌝ }
-{
-}
+{}
 
 // How many ranges the table of worked examples has, each with the rows that the rules give it.
 pub fn worked_examples() -> usize

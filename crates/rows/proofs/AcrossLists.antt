@@ -74,12 +74,12 @@ lowest-list m b = let e : b ≡ b + 1 - 1 = omega arith in ap (straight-rows m 0
 pub highest-list : (m a : ℕ) → a < 2 ^ m → straight-rows m a (2 ^ m - 1) ≡ end-list m (2 ^ m - a) true
 unfolding end-list
 highest-list m a h = elim (cases-lt 0 a) [
-    | inl p ↦ let e : 2 ^ m - 1 - a ≡ 2 ^ m - a - 1 = omega arith in equations-hold .to-highest m a p h ∙ ap (λ k. map (map swap) (straight-rows m 0 k)) e
-    | inr p ↦
-        let z : a ≡ 0 = omega arith in
-        let w : 2 ^ m - a ≡ 2 ^ m = omega arith in
-        ap (λ k. straight-rows m k (2 ^ m - 1)) z ∙ equations-hold .whole m ∙ sym (end-whole m (2 ^ m - a) true w)
-  ]
+  | inl p ↦ let e : 2 ^ m - 1 - a ≡ 2 ^ m - a - 1 = omega arith in equations-hold .to-highest m a p h ∙ ap (λ k. map (map swap) (straight-rows m 0 k)) e
+  | inr p ↦
+      let z : a ≡ 0 = omega arith in
+      let w : 2 ^ m - a ≡ 2 ^ m = omega arith in
+      ap (λ k. straight-rows m k (2 ^ m - 1)) z ∙ equations-hold .whole m ∙ sym (end-whole m (2 ^ m - a) true w)
+]
 
 pub end-long : (m count : ℕ) (e : Bool) → Long m (end-list m count e)
 unfolding end-list

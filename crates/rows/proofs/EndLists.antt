@@ -121,13 +121,13 @@ end-below m count e p h =
 -- as many rows as ones
 pub end-length : (m count : ℕ) (e : Bool) → 1 ≤ count → count ≤ 2 ^ m → length (end-list m count e) ≡ ones count
 end-length m count e p h = elim (cases-lt count (2 ^ m)) [
-    | inl l ↦ ap length (end-below m count e p l) ∙ turned-length e (below (digits m count)) ∙ below-ones m count l
-    | inr l ↦
-        let is : count ≡ 2 ^ m = omega arith in
-        let one : ones (1 * 2 ^ m + 0) ≡ ones 1 + ones 0 = ones-cat m 1 0 (pow-pos m) in
-        let unit = ones-ones 1 in
-        let none = ones-ones 0 in
-        let same : 1 * 2 ^ m + 0 ≡ count = omega arith in
-        let count-ones = ap ones same in
-        ap length (end-whole m count e is) ∙ omega arith
-  ]
+  | inl l ↦ ap length (end-below m count e p l) ∙ turned-length e (below (digits m count)) ∙ below-ones m count l
+  | inr l ↦
+      let is : count ≡ 2 ^ m = omega arith in
+      let one : ones (1 * 2 ^ m + 0) ≡ ones 1 + ones 0 = ones-cat m 1 0 (pow-pos m) in
+      let unit = ones-ones 1 in
+      let none = ones-ones 0 in
+      let same : 1 * 2 ^ m + 0 ≡ count = omega arith in
+      let count-ones = ap ones same in
+      ap length (end-whole m count e is) ∙ omega arith
+]

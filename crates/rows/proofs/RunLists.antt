@@ -39,9 +39,9 @@ shared-digit false m a b h k =
 -- the first digit of a number of one digit more
 split-digit : (m h : ℕ) → h < 2 ^ suc m → (d : Bool) × (k : ℕ) × (k < 2 ^ m) × (h ≡ cond d (2 ^ m) 0 + k)
 split-digit m h l = elim (cases-lt h (2 ^ m)) [
-    | inl s ↦ (false, h, s, omega arith)
-    | inr s ↦ (true, h - 2 ^ m, omega arith, omega arith)
-  ]
+  | inl s ↦ (false, h, s, omega arith)
+  | inr s ↦ (true, h - 2 ^ m, omega arith, omega arith)
+]
 
 scaled : (j m i : ℕ) (d : Bool) → (cond d (2 ^ j) 0 + i) * 2 ^ m ≡ cond d (2 ^ (j + m)) 0 + i * 2 ^ m
 scaled j m i true = add-mul (2 ^ j) i (2 ^ m) ∙ ap (λ x. x + i * 2 ^ m) (sym (pow-add 2 j m))
@@ -130,17 +130,17 @@ same-before a b q h =
 -- numbers whose exclusive or is not short differ in the first digit
 pub differ-first : (a b m : ℕ) → a ≤ b → b < 2 ^ suc m → 2 ^ m ≤ bitXor a b → (a < 2 ^ m) × (2 ^ m ≤ b)
 differ-first a b m o hb h = elim (cases-lt a (2 ^ m)) [
-    | inl la ↦ elim (cases-lt b (2 ^ m)) [
-        | inl lb ↦ let x = xor-lt m a b la lb in let z : ⊥ = omega arith in absurd z
-        | inr lb ↦ (la, lb)
-      ]
-    | inr la ↦
-        let one : a / 2 ^ m ≡ 1 = one-half a (omega arith) la in
-        let two : b / 2 ^ m ≡ 1 = one-half b hb (omega arith) in
-        let x = le-div 1 (bitXor a b) (2 ^ m) (pow-pos m) (omega arith) in
-        let e : bitXor a b / 2 ^ m ≡ 0 = xor-shr a b m ∙ ap₂ bitXor one two in
-        let z : ⊥ = omega arith in absurd z
+  | inl la ↦ elim (cases-lt b (2 ^ m)) [
+    | inl lb ↦ let x = xor-lt m a b la lb in let z : ⊥ = omega arith in absurd z
+    | inr lb ↦ (la, lb)
   ]
+  | inr la ↦
+      let one : a / 2 ^ m ≡ 1 = one-half a (omega arith) la in
+      let two : b / 2 ^ m ≡ 1 = one-half b hb (omega arith) in
+      let x = le-div 1 (bitXor a b) (2 ^ m) (pow-pos m) (omega arith) in
+      let e : bitXor a b / 2 ^ m ≡ 0 = xor-shr a b m ∙ ap₂ bitXor one two in
+      let z : ⊥ = omega arith in absurd z
+]
   where
     one-half : (x : ℕ) → x < 2 ^ suc m → 2 ^ m ≤ x → x / 2 ^ m ≡ 1
     one-half x hx lx =

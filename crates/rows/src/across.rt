@@ -10,7 +10,14 @@ use super::row_words::RowWords;
 
 // Writes the rows of 0·first to 1·last, which have so many places after the first, and answers the index after them.
 // The inner range of a middle rule is one place shorter.
-pub(super) fn rows_across(lead: Lead, places: u32, first: u64, last: u64, out: &mut [RowWords], at: usize) -> usize
+pub(super) fn rows_across(
+    lead: Lead,
+    places: u32,
+    first: u64,
+    last: u64,
+    out: &mut [RowWords],
+    at: usize,
+) -> usize
     requires places_within { ⌜ places < 32 ⌝ }
     requires first_within { ⌜ first < 2 ^ places ⌝ }
     requires last_within { ⌜ last < 2 ^ places ⌝ }
@@ -43,7 +50,14 @@ pub(super) fn rows_across(lead: Lead, places: u32, first: u64, last: u64, out: &
         }
         // the third quarter is whole
         out[at] = lead.one.with(place, false);
-        return rows_across(lead.inserted(place, true), place, first - half, last - half, out, at + 1);
+        return rows_across(
+            lead.inserted(place, true),
+            place,
+            first - half,
+            last - half,
+            out,
+            at + 1,
+        );
     }
     if last < half {
         // the second quarter is whole
@@ -59,7 +73,14 @@ pub(super) fn rows_across(lead: Lead, places: u32, first: u64, last: u64, out: &
 }
 
 // Both ends lie in the inner quarters, 01·first to 10·last.
-fn rows_in_inner_quarters(lead: Lead, place: u32, first: u64, last: u64, out: &mut [RowWords], at: usize) -> usize
+fn rows_in_inner_quarters(
+    lead: Lead,
+    place: u32,
+    first: u64,
+    last: u64,
+    out: &mut [RowWords],
+    at: usize,
+) -> usize
     requires place_within { ⌜ place < 31 ⌝ }
     requires first_within { ⌜ first < 2 ^ place ⌝ }
     requires last_within { ⌜ last < 2 ^ place ⌝ }
@@ -69,12 +90,33 @@ fn rows_in_inner_quarters(lead: Lead, place: u32, first: u64, last: u64, out: &m
     ensures next { λ r. ⌜ r ≡ at + length (across-rows (suc place) (2 ^ place + first) last) ⌝ }
 {
     let half = 1u64 << place;
-    let next = end_rows(lead.zero.with(place, true), place, half - first, true, out, at);
-    end_rows(lead.one.with(place, false), place, last + 1, false, out, next)
+    let next = end_rows(
+        lead.zero.with(place, true),
+        place,
+        half - first,
+        true,
+        out,
+        at,
+    );
+    end_rows(
+        lead.one.with(place, false),
+        place,
+        last + 1,
+        false,
+        out,
+        next,
+    )
 }
 
 // The ends lie in the outer quarters and are apart, 00·first to 11·last.
-fn rows_of_ends_apart(lead: Lead, place: u32, first: u64, last: u64, out: &mut [RowWords], at: usize) -> usize
+fn rows_of_ends_apart(
+    lead: Lead,
+    place: u32,
+    first: u64,
+    last: u64,
+    out: &mut [RowWords],
+    at: usize,
+) -> usize
     requires place_within { ⌜ place < 31 ⌝ }
     requires first_within { ⌜ first < 2 ^ place ⌝ }
     requires apart { ⌜ last + 1 < first ⌝ }
@@ -84,8 +126,22 @@ fn rows_of_ends_apart(lead: Lead, place: u32, first: u64, last: u64, out: &mut [
     ensures next { λ r. ⌜ r ≡ at + length (across-rows (suc place) first (2 ^ place + last)) ⌝ }
 {
     let half = 1u64 << place;
-    let next = end_rows(lead.zero.with(place, false), place, half - first, true, out, at);
+    let next = end_rows(
+        lead.zero.with(place, false),
+        place,
+        half - first,
+        true,
+        out,
+        at,
+    );
     out[next] = lead.zero.with(place, true);
     out[next + 1] = lead.one.with(place, false);
-    end_rows(lead.one.with(place, true), place, last + 1, false, out, next + 2)
+    end_rows(
+        lead.one.with(place, true),
+        place,
+        last + 1,
+        false,
+        out,
+        next + 2,
+    )
 }

@@ -9,7 +9,14 @@ ghost use Rattle.rows.specs.Building.{behind-front, Free, turned, end-list, wr
 use super::row_words::RowWords;
 
 // Writes the rows of the `count` lowest numbers or, exchanged, of the highest, and answers the index after them.
-pub(super) fn end_rows(front: RowWords, places: u32, count: u64, exchanged: bool, out: &mut [RowWords], at: usize) -> usize
+pub(super) fn end_rows(
+    front: RowWords,
+    places: u32,
+    count: u64,
+    exchanged: bool,
+    out: &mut [RowWords],
+    at: usize,
+) -> usize
     requires places_within { ⌜ places ≤ 32 ⌝ }
     requires some { ⌜ 1 ≤ count ⌝ }
     requires count_within { ⌜ count ≤ 2 ^ places ⌝ }
@@ -28,7 +35,14 @@ pub(super) fn end_rows(front: RowWords, places: u32, count: u64, exchanged: bool
 }
 
 // Writes a row for each 1 in `above`, first place to last: the digits before it, then 0, then dashes.
-fn rows_below(front: RowWords, places: u32, above: u64, exchanged: bool, out: &mut [RowWords], at: usize)
+fn rows_below(
+    front: RowWords,
+    places: u32,
+    above: u64,
+    exchanged: bool,
+    out: &mut [RowWords],
+    at: usize,
+)
     requires places_within { ⌜ places ≤ 32 ⌝ }
     requires free { ⌜ Free places front ⌝ }
     requires room { ⌜ at + length (below (digits places above)) ≤ length (now out) ⌝ }

@@ -19,7 +19,11 @@ impl Lead {
         ensures begun { λ r. ⌜ Begun front r place exchanged ⌝ }
         ensures free { λ r. ⌜ Free-lead place r ⌝ }
     {
-        Lead { zero: front.with(place, exchanged), one: front.with(place, !exchanged), dash: front }
+        Lead {
+            zero: front.with(place, exchanged),
+            one: front.with(place, !exchanged),
+            dash: front,
+        }
     }
 
     // The lead of rows that get this digit after their first symbol.
@@ -29,7 +33,11 @@ impl Lead {
         ensures inserted { λ r. ⌜ Inserted self r place digit ⌝ }
         ensures free { λ r. ⌜ Free-lead place r ⌝ }
     {
-        Lead { zero: self.zero.with(place, digit), one: self.one.with(place, digit), dash: self.dash.with(place, digit) }
+        Lead {
+            zero: self.zero.with(place, digit),
+            one: self.one.with(place, digit),
+            dash: self.dash.with(place, digit),
+        }
     }
 
     // The lead of rows of which a first 0 becomes "-0", a first 1 becomes "1-" and a first dash becomes two.
@@ -39,6 +47,10 @@ impl Lead {
         ensures widened { λ r. ⌜ Widened self r place ⌝ }
         ensures free { λ r. ⌜ Free-lead place r ⌝ }
     {
-        Lead { zero: self.dash.with(place, false), one: self.one, dash: self.dash }
+        Lead {
+            zero: self.dash.with(place, false),
+            one: self.one,
+            dash: self.dash,
+        }
     }
 }

@@ -1,12 +1,12 @@
 // Widths, rows, and the rows of a range.
+mod across;
+mod ends;
+mod lead;
+pub mod range;
 pub mod refusal;
-pub mod width;
+mod round;
 pub mod row;
 pub mod row_words;
-mod lead;
-mod ends;
-mod across;
-mod straight;
-mod round;
 mod run;
-pub mod range;
+mod straight;
+pub mod width;

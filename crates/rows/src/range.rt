@@ -22,7 +22,12 @@ const MOST_ROWS: usize = 62;
 // Writes the rows that take the numbers from first to last, or, where first is above last, from first round to last,
 // at the start of memory, and answers how many they are. Refused if an end is no number of the width, then if memory
 // is shorter than the list.
-pub fn rows_of_range(width: Width, first: u64, last: u64, memory: &mut [RowWords]) -> Result<usize, Refusal>
+pub fn rows_of_range(
+    width: Width,
+    first: u64,
+    last: u64,
+    memory: &mut [RowWords],
+) -> Result<usize, Refusal>
     ensures answer { λ r. ⌜ r ≡ range-answer (places-of width) first last (length (now (memory .entry))) ⌝ }
     ensures written { λ r. ⌜ made r (λ k. now (memory .exit) ≡ map words-of (rows-of-range (places-of width) first last) ++ drop k (now (memory .entry))) ⌝ }
     ensures untouched_when_refused { λ r. ⌜ (isErr r ≡ true → now (memory .exit) ≡ now (memory .entry)) ⌝ }

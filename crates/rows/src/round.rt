@@ -10,7 +10,14 @@ use super::lead::Lead;
 use super::row_words::RowWords;
 
 // Writes the rows of first to the highest number and of 0 to last, and answers the index after them.
-pub(super) fn rows_of_round(front: RowWords, places: u32, first: u64, last: u64, out: &mut [RowWords], at: usize) -> usize
+pub(super) fn rows_of_round(
+    front: RowWords,
+    places: u32,
+    first: u64,
+    last: u64,
+    out: &mut [RowWords],
+    at: usize,
+) -> usize
     requires places_within { ⌜ places ≤ 32 ⌝ }
     requires round { ⌜ last < first ⌝ }
     requires first_within { ⌜ first < 2 ^ places ⌝ }
@@ -29,7 +36,21 @@ pub(super) fn rows_of_round(front: RowWords, places: u32, first: u64, last: u64,
     if last >= half {
         // both ends begin with 1: all that begin with 0 are in
         out[at] = front.with(place, false);
-        return rows_of_round(front.with(place, true), place, first - half, last - half, out, at + 1);
+        return rows_of_round(
+            front.with(place, true),
+            place,
+            first - half,
+            last - half,
+            out,
+            at + 1,
+        );
     }
-    rows_across(Lead::behind(front, place, true), place, first - half, last, out, at)
+    rows_across(
+        Lead::behind(front, place, true),
+        place,
+        first - half,
+        last,
+        out,
+        at,
+    )
 }

@@ -23,7 +23,10 @@ impl Row {
         ensures value { λ r. ⌜ r .value ≡ bitAnd value care ⌝ }
         ensures care { λ r. ⌜ r .care ≡ care ⌝ }
     {
-        Row { value: value & care, care }
+        Row {
+            value: value & care,
+            care,
+        }
     }
 
     // The row that two words in memory stand for.
@@ -39,7 +42,10 @@ impl Row {
         ensures value { λ r. ⌜ r .value ≡ self .value ⌝ }
         ensures care { λ r. ⌜ r .care ≡ self .care ⌝ }
     {
-        RowWords { value: self.value, care: self.care }
+        RowWords {
+            value: self.value,
+            care: self.care,
+        }
     }
 
     pub fn value(self) -> u32

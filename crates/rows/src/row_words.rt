@@ -20,7 +20,10 @@ impl RowWords {
     {
         let bit = 1u32 << place;
         let value = if digit { self.value + bit } else { self.value };
-        RowWords { value, care: self.care + bit }
+        RowWords {
+            value,
+            care: self.care + bit,
+        }
     }
 
     // The row with the digits of a number in the place of the dashes from one place up to another.

@@ -12,7 +12,14 @@ use super::row_words::RowWords;
 
 // Writes the rows of first to last, of so many places, and answers the index after them.
 // The digits that both ends share go before each row of the shorter range that remains.
-pub(super) fn rows_of_straight(front: RowWords, places: u32, first: u64, last: u64, out: &mut [RowWords], at: usize) -> usize
+pub(super) fn rows_of_straight(
+    front: RowWords,
+    places: u32,
+    first: u64,
+    last: u64,
+    out: &mut [RowWords],
+    at: usize,
+) -> usize
     requires places_within { ⌜ places ≤ 32 ⌝ }
     requires ordered { ⌜ first ≤ last ⌝ }
     requires last_within { ⌜ last < 2 ^ places ⌝ }
@@ -24,14 +31,28 @@ pub(super) fn rows_of_straight(front: RowWords, places: u32, first: u64, last: u
     let rest = places_apart(first, last);
     if rest < places {
         let step = 1u64 << rest;
-        return rows_of_straight(front.with_digits(first, rest, places), rest, first % step, last % step, out, at);
+        return rows_of_straight(
+            front.with_digits(first, rest, places),
+            rest,
+            first % step,
+            last % step,
+            out,
+            at,
+        );
     }
     if places == 0 {
         out[at] = front;
         return at + 1;
     }
     let place = places - 1;
-    rows_across(Lead::behind(front, place, false), place, first, last - (1u64 << place), out, at)
+    rows_across(
+        Lead::behind(front, place, false),
+        place,
+        first,
+        last - (1u64 << place),
+        out,
+        at,
+    )
 }
 
 // The places that remain behind the digits that both numbers begin with.

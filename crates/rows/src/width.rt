@@ -16,7 +16,9 @@ impl Width {
         ensures made { λ r. ⌜ Width-made places r ⌝ }
     {
         if 1 <= places && places <= 32 {
-            Ok(Width { spare: (places - 1) as u32 })
+            Ok(Width {
+                spare: (places - 1) as u32,
+            })
         } else {
             Err(Refusal::WidthOutOfRange)
         }

@@ -36,7 +36,10 @@ mod tests {
         check_eq(row.symbol_at(0), Symbol::One)?;
         check_eq(row.symbol_at(1), Symbol::Dash)?;
         check_eq(row.symbol_at(40), Symbol::Dash)?;
-        check_eq(Row::read(RowWords { value: 2, care: 6 }).symbol_at(2), Symbol::Zero)?;
+        check_eq(
+            Row::read(RowWords { value: 2, care: 6 }).symbol_at(2),
+            Symbol::Zero,
+        )?;
         check(row.takes(0b111) && row.takes(0b101) && !row.takes(0b011))
     }
 
@@ -44,21 +47,57 @@ mod tests {
     fn memory_of_the_right_length() -> Result<(), Fail> {
         let mut memory = [OLD; 4];
         check_eq(rows_of_range(Width::new(3)?, 1, 6, &mut memory), Ok(3))?;
-        check_eq(memory[0], RowWords { value: 0b010, care: 0b110 })?;
-        check_eq(memory[1], RowWords { value: 0b001, care: 0b011 })?;
-        check_eq(memory[2], RowWords { value: 0b100, care: 0b101 })?;
+        check_eq(
+            memory[0],
+            RowWords {
+                value: 0b010,
+                care: 0b110,
+            },
+        )?;
+        check_eq(
+            memory[1],
+            RowWords {
+                value: 0b001,
+                care: 0b011,
+            },
+        )?;
+        check_eq(
+            memory[2],
+            RowWords {
+                value: 0b100,
+                care: 0b101,
+            },
+        )?;
         check_eq(memory[3], OLD)?;
-        check_eq(rows_of_range(Width::new(3)?, 1, 6, &mut memory[0..3]), Ok(3))
+        check_eq(
+            rows_of_range(Width::new(3)?, 1, 6, &mut memory[0..3]),
+            Ok(3),
+        )
     }
 
     #[test]
     fn refusals_leave_memory() -> Result<(), Fail> {
         let mut memory = [OLD; 2];
-        check_eq(rows_of_range(Width::new(3)?, 1, 6, &mut memory), Err(Refusal::MemoryTooShort))?;
-        check_eq(rows_of_range(Width::new(3)?, 1, 8, &mut memory), Err(Refusal::NumberOutsideWidth))?;
-        check_eq(rows_of_range(Width::new(3)?, 8, 1, &mut memory), Err(Refusal::NumberOutsideWidth))?;
-        check_eq(rows_of_range(Width::new(3)?, 8, 1, &mut memory[0..0]), Err(Refusal::NumberOutsideWidth))?;
-        check_eq(rows_of_range(Width::new(3)?, 0, 7, &mut memory[0..0]), Err(Refusal::MemoryTooShort))?;
+        check_eq(
+            rows_of_range(Width::new(3)?, 1, 6, &mut memory),
+            Err(Refusal::MemoryTooShort),
+        )?;
+        check_eq(
+            rows_of_range(Width::new(3)?, 1, 8, &mut memory),
+            Err(Refusal::NumberOutsideWidth),
+        )?;
+        check_eq(
+            rows_of_range(Width::new(3)?, 8, 1, &mut memory),
+            Err(Refusal::NumberOutsideWidth),
+        )?;
+        check_eq(
+            rows_of_range(Width::new(3)?, 8, 1, &mut memory[0..0]),
+            Err(Refusal::NumberOutsideWidth),
+        )?;
+        check_eq(
+            rows_of_range(Width::new(3)?, 0, 7, &mut memory[0..0]),
+            Err(Refusal::MemoryTooShort),
+        )?;
         check_eq(memory[0], OLD)?;
         check_eq(memory[1], OLD)
     }

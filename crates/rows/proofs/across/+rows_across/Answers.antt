@@ -85,7 +85,7 @@ pub index-out-at-then-first-eq0 : need.index-out-at-then-first-eq0
 index-out-at-then-first-eq0 t c =
     let h = below-top (c .args .places) (c .args .last) (c .pre .places-within) (c .pre .last-within) (c .if-last-limit .left) in
     let k = ends-length (c .args .lead) (c .args .lead .one) (c .args .lead .zero) (c .args .places) (c .args .first) (c .args .last) (end-list (c .args .places) (c .args .last + 1) false)
-        (from-zero-at (c .args .lead) (c .args .places) (c .args .first) (c .args .last) (c .if-first-eq0 .taken) h) in
+    (from-zero-at (c .args .lead) (c .args .places) (c .args .first) (c .args .last) (c .if-first-eq0 .taken) h) in
     let room = c .pre .room in
     omega arith
 
@@ -93,7 +93,7 @@ pub end-rows-requires : need.end-rows-requires
 end-rows-requires t c κs =
     let h = below-top (c .args .places) (c .args .last) (c .pre .places-within) (c .pre .last-within) (c .if-last-limit .left) in
     let k = ends-length (c .args .lead) (c .args .lead .one) (c .args .lead .zero) (c .args .places) (c .args .first) (c .args .last) (end-list (c .args .places) (c .args .last + 1) false)
-        (from-zero-at (c .args .lead) (c .args .places) (c .args .first) (c .args .last) (c .if-first-eq0 .taken) h) in
+    (from-zero-at (c .args .lead) (c .args .places) (c .args .first) (c .args .last) (c .if-first-eq0 .taken) h) in
     let room = c .pre .room in
     record { places-within = omega arith; some = omega arith; count-within = omega arith; free = c .pre .free .one; room = simp length-set (omega arith) }
 

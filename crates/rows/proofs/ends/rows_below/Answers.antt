@@ -44,8 +44,7 @@ loop-place-again-then-above-place-eq1 c =
     let rest = c .with-front .ensures .extended in
     let step = left-at-one (L .front) (c .with .result) (c .with-front .result) e (L .place) (c .args .above) (c .loop-place-test .taken) (digit-one (c .args .above) (L .place - 1) (c .if-above-place-eq1 .taken)) here rest in
     let k = ap length step in
-    let room = L .inv .1 in
-    (
+    let room = L .inv .1 in (
       sym (written-first (L .out) (L .next) (c .with .result) (left-rows (c .with-front .result) e (L .place - 1) (c .args .above)) (omega arith)) ∙
           ap (written (L .out) (L .next)) (sym step) ∙ L .inv .0,
       simp length-set (omega arith),
@@ -60,8 +59,7 @@ loop-place-again c =
     let rest = c .with-front-else-above-place-eq1 .ensures .extended in
     let step = left-at-zero (L .front) more e (L .place) (c .args .above) (c .loop-place-test .taken) (digit-none (c .args .above) (L .place - 1) (c .if-above-place-eq1 .left)) rest in
     let k = ap length step in
-    let room = L .inv .1 in
-    (
+    let room = L .inv .1 in (
       ap (written (L .out) (L .next)) (sym step) ∙ L .inv .0,
       omega arith,
       free-after (L .front) more (L .place) e rest (c .loop-place-test .taken) (L .inv .2),

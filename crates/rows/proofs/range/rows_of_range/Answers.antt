@@ -55,7 +55,7 @@ returns c =
     let long = length-map rows words-of in
     let part = ap (take (k - 0)) (c .rows-of-its-run-count .ensures .rows) ∙ start (map words-of rows) _ k (e ∙ sym long) in
     let all : c .copy-to-start .last .memory ≡ map words-of rows ++ drop k (c .args .memory .now) =
-        c .copy-to-start .ensures .copied ∙ ap₂ (λ (x : List RowWords) (j : ℕ). x ++ drop j (c .args .memory .now)) part (ap length part ∙ long ∙ sym e) in
+    c .copy-to-start .ensures .copied ∙ ap₂ (λ (x : List RowWords) (j : ℕ). x ++ drop j (c .args .memory .now)) part (ap length part ∙ long ∙ sym e) in
     let back = ap (rows-in n k) all ∙ rows-read n rows (drop k (c .args .memory .now)) k (range-long n f l) e in
     record {
       answer = ap Ok e ∙ sym (granted n f l (length (c .args .memory .now)) hf hl (omega arith));
