@@ -25,7 +25,7 @@ fn account(rt: &LibcRuntime, places: u64, first: u64, last: u64, room: usize) ->
     }
 }
 
-pub fn worked_ranges(rt: &LibcRuntime) -> io::Result<()> {
+pub(super) fn worked_ranges(rt: &LibcRuntime) -> io::Result<()> {
     println!(rt, "Worked ranges")?;
     let ranges = [
         (3, 1, 6),
@@ -45,7 +45,7 @@ pub fn worked_ranges(rt: &LibcRuntime) -> io::Result<()> {
     Ok(())
 }
 
-pub fn wide_ranges(rt: &LibcRuntime) -> io::Result<()> {
+pub(super) fn wide_ranges(rt: &LibcRuntime) -> io::Result<()> {
     println!(rt, "Other widths, single numbers and the whole circle")?;
     let ranges = [
         (32, 1, 4_294_967_294),
@@ -66,7 +66,7 @@ pub fn wide_ranges(rt: &LibcRuntime) -> io::Result<()> {
     Ok(())
 }
 
-pub fn refused_ranges(rt: &LibcRuntime) -> io::Result<()> {
+pub(super) fn refused_ranges(rt: &LibcRuntime) -> io::Result<()> {
     println!(rt, "Refused")?;
     account(rt, 3, 1, 8, 62)?;
     account(rt, 3, 8, 1, 62)?;

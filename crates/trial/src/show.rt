@@ -6,7 +6,7 @@ use rows::width::Width;
 use std::io;
 
 // The symbols of a row, the first place first.
-pub fn print_row(rt: &LibcRuntime, width: Width, row: Row) -> io::Result<()> {
+pub(super) fn print_row(rt: &LibcRuntime, width: Width, row: Row) -> io::Result<()> {
     for place in (0..width.places()).rev() {
         print!(rt, "{}", row.symbol_at(place).letter())?;
     }
@@ -14,7 +14,7 @@ pub fn print_row(rt: &LibcRuntime, width: Width, row: Row) -> io::Result<()> {
 }
 
 // At most four rows on a line, and how many more there are.
-pub fn print_rows(rt: &LibcRuntime, width: Width, rows: &[RowWords]) -> io::Result<()> {
+pub(super) fn print_rows(rt: &LibcRuntime, width: Width, rows: &[RowWords]) -> io::Result<()> {
     for words in rows.iter().take(4) {
         print!(rt, " ")?;
         print_row(rt, width, Row::read(*words))?;
@@ -26,7 +26,7 @@ pub fn print_rows(rt: &LibcRuntime, width: Width, rows: &[RowWords]) -> io::Resu
     println!(rt, "")
 }
 
-pub fn print_refusal(rt: &LibcRuntime, refusal: Refusal) -> io::Result<()> {
+pub(super) fn print_refusal(rt: &LibcRuntime, refusal: Refusal) -> io::Result<()> {
     let number = refusal.number();
     println!(rt, " refused {number}")
 }
