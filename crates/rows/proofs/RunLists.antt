@@ -22,7 +22,8 @@ use Rattle.covers.proofs.RowWords.{symbols-back, clean-word}
 use Rattle.covers.proofs.RowLengths.{Long, straight-rows-long, round-rows-long}
 use Rattle.rows.specs.declared.row_words.RowWords.{RowWords}
 use Rattle.rows.specs.declared.lead.Lead.{Lead}
-use Rattle.rows.specs.Building.{words-of, behind-front, behind-lead, across-rows, Extended, Begun}
+use Rattle.rows.specs.Building.{behind-front, behind-lead, across-rows, Extended, Begun}
+use Rattle.rows.specs.Memory.{words-of}
 use Rattle.rows.specs.RangeRows.{rows-in}
 use Rattle.rows.proofs.Fronts.{symbol, same-words, extended-row, extended-rows, plain-behind, digit-behind}
 use Rattle.rows.proofs.EndLists.{extend}

@@ -11,10 +11,6 @@ use Rattle.covers.specs.Rules.{swap, straight-rows}
 use Rattle.rows.specs.declared.row_words.RowWords.{RowWords}
 use Rattle.rows.specs.declared.lead.Lead.{Lead}
 
--- a row as words
-abbrev pub words-of : Symbols → RowWords
-words-of r = record { value = value-word r; care = care-word r }
-
 -- a front is a row with dashes at its last places; a row behind it stands at those places
 abbrev pub behind-front : RowWords → Symbols → RowWords
 behind-front front r = record { value = front .value + value-word r; care = front .care + care-word r }

@@ -1,4 +1,5 @@
 pub mod Refusals
 pub mod Widths
+pub mod Memory
 pub mod RangeRows
 pub mod Building

@@ -1,18 +1,17 @@
 -- What the calls on a range answer, and how memory is read.
 use mathlib.Core.Bool.{Bool, cond, _&&_}
-use mathlib.Core.List.{List, map}
+use mathlib.Core.List.{List}
 use Prim.Native.Nat.{ℕ, _^_}
-use lib.Bits.{bitAnd}
 use lib.Dec.{leb, ltb}
 use lib.ListN.{length, take}
 use Rattle.std.specs.declared.result.Result.{Result}
 use Rattle.std.specs.declared.result.Result.the-variants.{Ok, Err}
 use Rattle.covers.specs.Symbols.{Symbols}
-use Rattle.covers.specs.Words.{symbols}
 use Rattle.covers.specs.Rules.{rows-of-range}
 use Rattle.rows.specs.declared.refusal.Refusal.{Refusal}
 use Rattle.rows.specs.declared.refusal.Refusal.the-variants.{NumberOutsideWidth, MemoryTooShort}
 use Rattle.rows.specs.declared.row_words.RowWords.{RowWords}
+use Rattle.rows.specs.Memory.{rows-of}
 
 -- both ends are numbers of the width
 abbrev pub in-width : ℕ → ℕ → ℕ → Bool
@@ -27,4 +26,4 @@ range-answer n first last places =
 
 -- the first k rows that stand in memory, each read by making
 abbrev pub rows-in : ℕ → ℕ → List RowWords → List Symbols
-rows-in n k memory = map (λ w. symbols n (bitAnd (w .value) (w .care)) (w .care)) (take k memory)
+rows-in n k memory = rows-of n (take k memory)

@@ -6,7 +6,8 @@ use lib.ListN.{length}
 use lib.Pow.{pow-pos, pow-mono}
 use Rattle.covers.specs.Rules.{rows-of-run, rows-of-range}
 use Rattle.covers.proofs.RangeLists.{range-few, most-few}
-use Rattle.rows.specs.Building.{words-of, written}
+use Rattle.rows.specs.Building.{written}
+use Rattle.rows.specs.Memory.{words-of}
 use Rattle.rows.specs.Widths.{places-of}
 use Rattle.rows.proofs.RunLists.{range-whole, range-proper}
 use Rattle.rows.proofs.Widths.{places-some, places-most}

@@ -16,7 +16,8 @@ use Rattle.covers.specs.Rules.{rows-of-range, most-rows}
 use Rattle.covers.proofs.RangeLists.{range-exact, range-shortest, range-long, range-few, most-few}
 use Rattle.rows.specs.declared.refusal.Refusal.{Refusal}
 use Rattle.rows.specs.declared.row_words.RowWords.{RowWords}
-use Rattle.rows.specs.Building.{words-of, written}
+use Rattle.rows.specs.Building.{written}
+use Rattle.rows.specs.Memory.{words-of}
 use Rattle.rows.specs.RangeRows.{range-answer, rows-in}
 use Rattle.rows.specs.Widths.{places-of}
 use Rattle.rows.proofs.RunLists.{rows-read}

@@ -4,7 +4,8 @@ use native.Mathlib.Omega.{arith}
 use lib.ListN.{length}
 use lib.Pow.{pow-mono}
 use mathlib.Core.List.{map}
-use Rattle.rows.specs.Building.{words-of, written}
+use Rattle.rows.specs.Building.{written}
+use Rattle.rows.specs.Memory.{words-of}
 use Rattle.rows.proofs.RunLists.{words-behind, run-straight, run-round}
 use Rattle.rows.proofs.run.rows_of_run.Needs as need
 

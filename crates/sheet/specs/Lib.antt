@@ -1,0 +1,4 @@
+pub mod Faults
+pub mod Packing
+pub mod Reading
+pub mod RoundTrips

@@ -1,0 +1,9 @@
+pub mod Values
+pub mod Bytes
+pub mod Codes
+pub mod Headers
+pub mod Cuts
+pub mod Readings
+pub mod Places
+pub mod Bodies
+pub mod RowEnds
