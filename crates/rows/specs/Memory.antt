@@ -14,6 +14,7 @@ as-made words = record { value = bitAnd (words .value) (words .care); care = wor
 abbrev pub row-of : ℕ → RowWords → Symbols
 row-of width words = symbols width (bitAnd (words .value) (words .care)) (words .care)
 
+-- the rows of all of memory
 abbrev pub rows-of : ℕ → List RowWords → List Symbols
 rows-of width memory = map (row-of width) memory
 

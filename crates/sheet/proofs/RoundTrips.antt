@@ -33,7 +33,7 @@ use Rattle.sheet.specs.Faults.{refusal-in, cares-outside, pack-fault, read-fau
 use Rattle.rows.specs.Memory.{as-made, row-of, rows-of, words-of}
 use Rattle.sheet.specs.Packing.{sheet-of, Packed}
 use Rattle.sheet.specs.Reading.{Holds, Read, Accepts}
-use Rattle.sheet.specs.RoundTrips.{Left-by-pack, Left-by-read, Same-rows, Same-bytes}
+use Rattle.sheet.specs.RoundTrips.{Left-by-pack, Left-by-read, Same-rows}
 use Rattle.sheet.specs.declared.sheet_size.SheetSize.{SheetSize}
 use Rattle.sheet.proofs.PackFaults as packing
 use Rattle.sheet.proofs.ReadFaults as reading
@@ -194,7 +194,7 @@ module _ (width : ℕ) (rows : List Symbols) (sheet : List ℕ) (is : Sheet widt
           packing.fault-none width (map words-of rows) room (words-inside width rows (is .even)) (omega arith) (omega arith) ∙
           sym (ap (λ (b : Bool). cond b (Some MemoryTooShort) None) (le-ltb room (length sheet) h))
 
-  pub again-bytes : (words : List RowWords) → words ≡ map words-of rows → (before after : List ℕ) (r : Result ℕ Refusal) → Packed (sheet-of width words) before after r → Same-bytes sheet before after r
+  pub again-bytes : (words : List RowWords) → words ≡ map words-of rows → (before after : List ℕ) (r : Result ℕ Refusal) → Packed (sheet-of width words) before after r → Packed sheet before after r
   again-bytes words e before after (Err x) p = p
   again-bytes words e before after (Ok n) p =
       let s : sheet-of width words ≡ sheet = ap (sheet-of width) e ∙ sheet-again in
@@ -206,7 +206,7 @@ pub read-and-packed : (width count : ℕ) (sheet : List ℕ) (rows : List Symbol
     refusal-in r ≡ pack-fault width (take count new) (length before) → Packed (sheet-of width (take count new)) before after r →
     (refusal-in r ≡ first-fault (read-fault sheet (length old)) (room-fault (length before) (length sheet))) ×
     Left-by-read (read-fault sheet (length old)) sheet old new ×
-    Same-bytes sheet before after r
+    Packed sheet before after r
 read-and-packed width count sheet rows old new before after r none is n holds refusal packed =
     let words : take count new ≡ map words-of rows = ap (take count) holds ∙ take-at (map words-of rows) (drop (length rows) old) count (length-map rows words-of ∙ sym n) in (
       refusal ∙ ap (λ (x : List RowWords). pack-fault width x (length before)) words ∙ again-fault width rows sheet is (length before) ∙

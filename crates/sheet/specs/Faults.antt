@@ -12,7 +12,7 @@ use Rattle.covers.specs.Digits.{all-zeros}
 use Rattle.rows.specs.declared.refusal.Refusal.{Refusal}
 use Rattle.rows.specs.declared.refusal.Refusal.the-variants.{MemoryTooShort, RowOutsideWidth, TooManyRows, SheetTooShort, UnknownSymbol, SheetNotClean}
 use Rattle.rows.specs.declared.row_words.RowWords.{RowWords}
-use Rattle.sheets.specs.Format.{sheet-size}
+use Rattle.sheets.specs.Format.{most-rows, sheet-size}
 use Rattle.sheets.specs.Reading.{width-field, count-field, symbol-bits, zero-bits, unknown-code}
 
 -- the refusal that an answer is, if it is one
@@ -29,14 +29,14 @@ cares-outside width (r ∷ rows) = leb (2 ^ width) (r .care) || cares-outside wi
 unfoldable pub pack-fault : ℕ → List RowWords → ℕ → Option Refusal
 pack-fault width rows room =
     cond (cares-outside width rows) (Some RowOutsideWidth)
-    (cond (ltb 120 (length rows)) (Some TooManyRows)
+    (cond (ltb most-rows (length rows)) (Some TooManyRows)
     (cond (ltb room (sheet-size width (length rows))) (Some MemoryTooShort) None))
 
 -- why a sheet is not read into memory for so many rows: the first reason that holds
 unfoldable pub read-fault : List ℕ → ℕ → Option Refusal
 read-fault sheet room =
     cond (ltb (length sheet) 2) (Some SheetTooShort)
-    (cond (ltb 120 (count-field sheet)) (Some TooManyRows)
+    (cond (ltb most-rows (count-field sheet)) (Some TooManyRows)
     (cond (ltb (length sheet) (sheet-size (width-field sheet) (count-field sheet))) (Some SheetTooShort)
     (cond (unknown-code (symbol-bits sheet)) (Some UnknownSymbol)
     (cond (not (all-zeros (zero-bits sheet)) || ltb (sheet-size (width-field sheet) (count-field sheet)) (length sheet)) (Some SheetNotClean)

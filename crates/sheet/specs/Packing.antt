@@ -1,4 +1,4 @@
--- What packing and reading leave in memory.
+-- The sheet of rows in memory, and what packing leaves.
 use mathlib.Core.List.{List, _++_}
 use mathlib.Core.Path.{_≡_}
 use Prim.Native.Nat.{ℕ}

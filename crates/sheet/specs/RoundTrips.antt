@@ -30,8 +30,3 @@ Left-by-read None sheet before after = (width : ℕ) × ((rows : List Symbols) �
 abbrev pub Same-rows : ℕ → List RowWords → List RowWords → List RowWords → Result SheetSize Refusal → Type 0
 Same-rows width rows before after (Ok size) = (places-of (size .width) ≡ width) × (size .count ≡ length rows) × (after ≡ map as-made rows ++ drop (length rows) before)
 Same-rows width rows before after (Err e) = after ≡ before
-
--- the same bytes came back
-abbrev pub Same-bytes : List ℕ → List ℕ → List ℕ → Result ℕ Refusal → Type 0
-Same-bytes sheet before after (Ok n) = (n ≡ length sheet) × (after ≡ sheet ++ drop n before)
-Same-bytes sheet before after (Err e) = after ≡ before

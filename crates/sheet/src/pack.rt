@@ -7,7 +7,7 @@ ghost use Rattle.rows.specs.Widths.{places-of};
 ghost use Rattle.sheet.specs.Faults.{cares-outside, refusal-in, pack-fault};
 ghost use Rattle.sheet.specs.Packing.{sheet-of, Packed};
 ghost use Rattle.rows.specs.Memory.{rows-of};
-ghost use Rattle.sheets.specs.Format.{all-symbols, byte-from, sheet-size};
+ghost use Rattle.sheets.specs.Format.{all-symbols, byte-from, most-rows, sheet-size};
 use super::codes::code_in_rows;
 use rows::refusal::Refusal;
 use rows::row_words::RowWords;
@@ -52,7 +52,7 @@ fn any_outside(width: Width, rows: &[RowWords]) -> bool
 
 // How many bytes a sheet of so many rows has.
 fn byte_count(width: Width, count: usize) -> usize
-    requires few { ⌜ count ≤ 120 ⌝ }
+    requires few { ⌜ count ≤ most-rows ⌝ }
     ensures value { λ r. ⌜ r ≡ sheet-size (places-of width) count ⌝ }
 {
     2 + (count * width.places() as usize).div_ceil(4)
@@ -60,7 +60,7 @@ fn byte_count(width: Width, count: usize) -> usize
 
 // The byte of the sheet at an index.
 fn sheet_byte(width: Width, rows: &[RowWords], index: usize) -> u8
-    requires few { ⌜ length (now rows) ≤ 120 ⌝ }
+    requires few { ⌜ length (now rows) ≤ most-rows ⌝ }
     requires inside { ⌜ index < sheet-size (places-of width) (length (now rows)) ⌝ }
     ensures value { λ r. ⌜ r ≡ getD (sheet-of (places-of width) (now (rows .entry))) index 0 ⌝ }
 {

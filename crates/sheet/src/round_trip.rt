@@ -3,8 +3,8 @@ ghost use mathlib.Core.Path.{_≡_};
 ghost use lib.ListN.{length};
 ghost use Rattle.rows.specs.Widths.{places-of};
 ghost use Rattle.sheet.specs.Faults.{refusal-in, pack-fault, read-fault, room-fault, first-fault};
-ghost use Rattle.sheet.specs.Packing.{sheet-of};
-ghost use Rattle.sheet.specs.RoundTrips.{Left-by-pack, Left-by-read, Same-rows, Same-bytes};
+ghost use Rattle.sheet.specs.Packing.{sheet-of, Packed};
+ghost use Rattle.sheet.specs.RoundTrips.{Left-by-pack, Left-by-read, Same-rows};
 use super::pack::pack;
 use super::read::read;
 use super::sheet_size::SheetSize;
@@ -35,7 +35,7 @@ pub fn read_then_pack(
 ) -> Result<usize, Refusal>
     ensures refusal { λ r. ⌜ refusal-in r ≡ first-fault (read-fault (now (sheet .entry)) (length (now (rows .entry)))) (room-fault (length (now (again .entry))) (length (now (sheet .entry)))) ⌝ }
     ensures read { λ _. ⌜ Left-by-read (read-fault (now (sheet .entry)) (length (now (rows .entry)))) (now (sheet .entry)) (now (rows .entry)) (now (rows .exit)) ⌝ }
-    ensures same_bytes { λ r. ⌜ Same-bytes (now (sheet .entry)) (now (again .entry)) (now (again .exit)) r ⌝ }
+    ensures same_bytes { λ r. ⌜ Packed (now (sheet .entry)) (now (again .entry)) (now (again .exit)) r ⌝ }
 {
     let size = read(sheet, rows)?;
     pack(size.width, &rows[..size.count], again)

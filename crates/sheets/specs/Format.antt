@@ -47,14 +47,18 @@ bytes (suc n) u = value (filled 8 u) ∷ bytes n (drop 8 u)
 unfoldable pub bytes-of : Digits → List ℕ
 bytes-of u = bytes ((length u + 7) / 8) u
 
+-- the most rows of a sheet
+abbrev pub most-rows : ℕ
+most-rows = 120
+
 -- how many bytes a sheet has
 unfoldable pub sheet-size : ℕ → ℕ → ℕ
 sheet-size width count = 2 + (2 * (count * width) + 7) / 8
 
--- the bytes are the sheet of these rows, each of this width, and of 120 at most
+-- the bytes are the sheet of these rows, each of this width, and not too many
 pub record Sheet (width : ℕ) (rows : List Symbols) (sheet : List ℕ) : Type 0 where
   pub low : 1 ≤ width
   pub high : width ≤ 32
-  pub few : length rows ≤ 120
+  pub few : length rows ≤ most-rows
   pub even : All (λ r. length r ≡ width) rows
   pub same : sheet ≡ bytes-of (sheet-bits width rows)
