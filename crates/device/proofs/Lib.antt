@@ -1,0 +1,9 @@
+pub mod Rows
+pub mod Slots
+pub mod Granted
+pub mod Tables
+pub mod SameAnswers
+pub mod Plays
+pub mod BitSets
+pub mod Columns
+pub mod SymbolTakes

@@ -1,0 +1,11 @@
+pub mod States
+pub mod Answers
+pub mod Levels
+pub mod MadeRows
+pub mod Replays
+pub mod SlotTables
+pub mod SlotTableLaws
+pub mod Columns
+pub mod ColumnTables
+pub mod ColumnTableLaws
+pub mod SymbolLaws
