@@ -1,15 +1,15 @@
 -- Sets of slots as bits of a number.
 use mathlib.Core.Path.{_≡_, refl, sym, ap, ap₂, _∙_}
 use mathlib.Core.Bool.{Bool, true, false, not, cond, _&&_, _||_}
-use mathlib.Core.List.{[], _∷_}
-use Prim.Native.Nat.{ℕ, zero, suc, _+_, _-_, _*_, _/_, _%_, _^_, _≤_, _<_}
+use mathlib.Core.List.{_∷_}
+use Prim.Native.Nat.{ℕ, zero, suc, _+_, _-_, _*_, _/_, _%_, _^_, _<_}
 use native.Mathlib.Nat.{mod-lt, le-of-suc-le-suc, not-suc-le-zero, zero-lt-suc, add-mul, one-mul, mod-eq-of-lt}
 use native.Mathlib.Omega.{arith}
 use lib.Bits.{bitAnd, bitOr, bitXor, or-shr, or-mod, xor-shr, xor-mod, xor-add-and, and-mask, and-comm}
 use lib.Dec.{eqb, ltb}
 use lib.Pow.{pow-pos, pow-mono, pow-lt}
 use Rattle.std.proofs.shelf.Bits.{div-below, shr-high, shl-shr, pow-add}
-use Rattle.std.proofs.shelf.Tests.{eq-eqb, ne-eqb, eqb-true, eqb-false, ltb-true, ltb-false, lt-ltb, le-ltb}
+use Rattle.std.proofs.shelf.Tests.{eqb-true, eqb-false, ltb-true, ltb-false}
 use Rattle.covers.specs.Digits.{Digits, digit, digits, value}
 use Rattle.covers.proofs.Numbers.{value-digits}
 use Rattle.covers.proofs.RowWords.{digit-and}

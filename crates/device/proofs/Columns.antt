@@ -2,7 +2,7 @@
 use mathlib.Core.Path.{_≡_, refl, sym, ap, ap₂, subst, _∙_}
 use mathlib.Core.Bool.{Bool, true, false, not, cond, _&&_}
 use mathlib.Core.Logic.{_≢_}
-use mathlib.Core.List.{List, [], _∷_, map}
+use mathlib.Core.List.{List, [], _∷_}
 use Prim.Native.Nat.{ℕ, zero, suc, _+_, _*_, _%_, _^_, _≤_, _<_}
 use native.Mathlib.Nat.{one-mul}
 use native.Mathlib.Numerals.{add-one}
@@ -12,7 +12,6 @@ use lib.Dec.{eqb, ltb}
 use lib.ListN.{length, getD, set, replicate, length-set, length-replicate, getD-replicate}
 use lib.Pow.{pow-pos}
 use lib.Seq.{getD-set-same, getD-set-other}
-use Rattle.std.specs.Iters.{counting}
 use Rattle.std.specs.declared.option.Option.{Option}
 use Rattle.std.specs.declared.option.Option.the-variants.{Some, None}
 use Rattle.std.proofs.shelf.Bits.{one-shl}
@@ -23,7 +22,7 @@ use Rattle.covers.specs.declared.symbol.Symbol.{Symbol}
 use Rattle.covers.specs.declared.symbol.Symbol.the-variants.{Zero, One, Dash}
 use Rattle.covers.specs.Digits.{Digits, digit, digits}
 use Rattle.covers.specs.Symbols.{Symbols, takes}
-use Rattle.covers.specs.Words.{value-word, care-word, symbol-at, symbols}
+use Rattle.covers.specs.Words.{value-word, care-word, symbols}
 use Rattle.covers.proofs.RowWords.{symbols-back, value-word-fits, care-word-fits, words-take, words-back, clean-word}
 use Rattle.device.specs.declared.column.Column.{Column}
 use Rattle.device.specs.States.{Slot, slot-takes, some-slot-takes}

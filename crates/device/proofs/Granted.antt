@@ -1,17 +1,14 @@
 -- The answers of granted calls, and what they leave.
-use mathlib.Core.Path.{_≡_, refl, sym, ap, _∙_}
-use mathlib.Core.Bool.{Bool, true, false, cond, not, _&&_}
-use Prim.Native.Nat.{ℕ, _^_, _<_, _≤_}
-use lib.Dec.{ltb}
+use mathlib.Core.Path.{_≡_, refl}
+use mathlib.Core.Bool.{Bool, true, false, not, _&&_}
+use Prim.Native.Nat.{ℕ, _^_, _<_}
 use lib.ListN.{length, getD}
-use Rattle.std.proofs.shelf.Tests.{lt-ltb, le-ltb}
+use Rattle.std.proofs.shelf.Tests.{lt-ltb}
 use Rattle.std.specs.declared.option.Option.the-variants.{Some, None}
-use Rattle.std.specs.declared.result.Result.{Result}
-use Rattle.std.specs.declared.result.Result.the-variants.{Ok, Err}
+use Rattle.std.specs.declared.result.Result.the-variants.{Ok}
 use Rattle.rows.specs.declared.row.Row.{Row}
-use Rattle.rows.specs.declared.refusal.Refusal.{Refusal}
 use Rattle.device.specs.States.{Slot, DeviceState, says, some-slot-takes}
-use Rattle.device.specs.Answers.{with-slot, put-answer, after-put, empty-answer, after-empty, read-answer, ask-answer}
+use Rattle.device.specs.Answers.{with-slot, after-put, after-empty, read-answer, ask-answer}
 
 pub put-left : (s : DeviceState) (i : ℕ) (r : Row) → i < length (s .slots) → r .care < 2 ^ s .width → with-slot s i (Some r) ≡ after-put s i r
 put-left s i r h k = rw (lt-ltb i (length (s .slots)) h, lt-ltb (r .care) (2 ^ s .width) k)

@@ -1,14 +1,13 @@
 -- One step of a list of calls.
 use mathlib.Core.Path.{_≡_, refl, sym, ap, ap₂, _∙_}
 use mathlib.Core.Bool.{Bool, true, false}
-use mathlib.Core.List.{List, [], _∷_, _++_, append-assoc, append-nil}
-use Prim.Native.Nat.{ℕ, suc, _+_, _<_, _≤_}
+use mathlib.Core.List.{List, [], _∷_, _++_, append-assoc}
+use Prim.Native.Nat.{ℕ, suc, _+_, _<_}
 use native.Mathlib.Numerals.{add-one}
 use native.Mathlib.Omega.{arith}
 use lib.ListN.{length, take, drop, getD, set}
-use lib.Seq.{drop-cons, drop-set-lt, take-suc-set, take-all}
+use lib.Seq.{drop-cons, drop-set-lt, take-suc-set}
 use Rattle.std.specs.Orderings.{Decides}
-use Rattle.std.proofs.shelf.Lists.{drop-all}
 use Rattle.std.proofs.shelf.Tests.{both-ways}
 use Rattle.device.specs.declared.call.DeviceCall.{DeviceCall}
 use Rattle.device.specs.declared.call.DeviceAnswer.{DeviceAnswer}

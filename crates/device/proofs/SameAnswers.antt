@@ -13,7 +13,6 @@ use Rattle.rows.specs.contracts.refusal.RefusalPartialEq.the-impl as refusal-eq
 use Rattle.device.specs.declared.call.DeviceAnswer.{DeviceAnswer}
 use Rattle.device.specs.declared.call.DeviceAnswer.the-variants.{Done, Holds, Says, Refused}
 use Rattle.device.specs.contracts.call.DeviceAnswerPartialEq.the-impl as answer-equality
-use Rattle.device.specs.States.{Slot}
 use Rattle.device.proofs.Rows.{row-same}
 
 row-decides : (x y : Row) (r : Bool) → row-equality.ghosts .equals x y r → Decides r (x ≡ y)

@@ -7,7 +7,7 @@ use native.Mathlib.Nat.{le-of-suc-le-suc, not-suc-le-zero, zero-lt-suc}
 use lib.ListN.{length, take, getD}
 use lib.Seq.{take-all}
 use Rattle.std.proofs.shelf.Lists.{take-more}
-use Rattle.std.specs.declared.option.Option.the-variants.{Some, None}
+use Rattle.std.specs.declared.option.Option.the-variants.{None}
 use Rattle.device.specs.States.{Slot, slot-takes, some-slot-takes}
 
 none-append : (x : ℕ) (slots more : List Slot) → some-slot-takes slots x ≡ false → some-slot-takes more x ≡ false → some-slot-takes (slots ++ more) x ≡ false

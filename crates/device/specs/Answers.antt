@@ -1,6 +1,5 @@
 -- What each call on a device answers, by the conditions in their order, and what the device means afterwards.
 use mathlib.Core.Bool.{Bool, cond}
-use mathlib.Core.List.{List}
 use Prim.Native.Nat.{ℕ, _^_}
 use lib.Dec.{ltb}
 use lib.ListN.{length, getD, set}

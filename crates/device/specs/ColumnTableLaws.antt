@@ -1,7 +1,7 @@
 -- That the meaning of a column table is lawful.
-use mathlib.Core.Path.{_≡_, refl, sym, ap, _∙_}
+use mathlib.Core.Path.{_≡_, refl, ap}
 use mathlib.Core.List.{List, [], _∷_, map}
-use Prim.Native.Nat.{ℕ, zero, suc, _^_, _≤_, _<_}
+use Prim.Native.Nat.{ℕ, zero, suc, _^_, _<_}
 use native.Mathlib.Omega.{arith}
 use lib.ListN.{length, getD}
 use Rattle.std.specs.Iters.{counting}
@@ -16,7 +16,7 @@ use Rattle.covers.proofs.RowWords.{care-word-fits}
 use Rattle.rows.specs.Widths.{places-of}
 use Rattle.device.specs.declared.column.Column.{Column}
 use Rattle.device.specs.declared.column_table.ColumnTable.{ColumnTable}
-use Rattle.device.specs.States.{Slot, Slot-within, Lawful}
+use Rattle.device.specs.States.{Slot-within, Lawful}
 use Rattle.device.specs.MadeRows.{row-made}
 use Rattle.device.specs.Columns.{column-symbol, blank-column, one-more, slot-symbols, slot-with, column-slot, column-slots}
 use Rattle.device.specs.ColumnTables.{slot-count, column-table-state}

@@ -1,5 +1,4 @@
 -- What a device of a given meaning answers to a list of calls.
-use mathlib.Core.Bool.{Bool}
 use mathlib.Core.List.{List, [], _∷_, map}
 use Rattle.std.specs.declared.result.Result.{Result}
 use Rattle.std.specs.declared.result.Result.the-variants.{Ok, Err}
@@ -9,7 +8,7 @@ use Rattle.device.specs.declared.call.DeviceCall.the-variants.{Put, Empty, Rea
 use Rattle.device.specs.declared.call.DeviceAnswer.{DeviceAnswer}
 use Rattle.device.specs.declared.call.DeviceAnswer.the-variants.{Done, Holds, Says, Refused}
 use Rattle.device.specs.declared.call.Exchange.{Exchange}
-use Rattle.device.specs.States.{Slot, DeviceState}
+use Rattle.device.specs.States.{DeviceState}
 use Rattle.device.specs.Answers.{put-answer, after-put, empty-answer, after-empty, read-answer, after-mute, ask-answer}
 
 -- an answer as a value: what was granted, or the refusal

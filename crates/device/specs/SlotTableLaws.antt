@@ -1,18 +1,18 @@
 -- That the meaning of a slot table is lawful, whatever lies in its records.
-use mathlib.Core.Path.{_≡_, _∙_}
+use mathlib.Core.Path.{_∙_}
 use mathlib.Core.Bool.{Bool, true, false, cond}
 use mathlib.Core.List.{List, [], _∷_, map}
-use Prim.Native.Nat.{ℕ, _%_, _^_, _≤_, _<_}
+use Prim.Native.Nat.{ℕ, _%_, _^_, _≤_}
 use native.Mathlib.Nat.{mod-lt}
 use native.Mathlib.Omega.{arith}
-use lib.ListN.{length, take, length-map, length-take}
+use lib.ListN.{take, length-map, length-take}
 use lib.Pow.{pow-pos}
 use Rattle.std.specs.shelf.Lists.{All}
 use Rattle.std.specs.declared.option.Option.the-variants.{Some, None}
 use Rattle.rows.specs.declared.width.Width.{Width}
 use Rattle.rows.specs.Widths.{places-of}
 use Rattle.device.specs.declared.slot_record.SlotRecord.{SlotRecord}
-use Rattle.device.specs.States.{Slot, Slot-within, Lawful}
+use Rattle.device.specs.States.{Slot-within, Lawful}
 use Rattle.device.specs.MadeRows.{row-made}
 use Rattle.device.specs.SlotTables.{slot-of, table-slots, table-state}
 

@@ -1,7 +1,7 @@
 // The slot table: a device whose slots are records in the caller's memory.
 ghost use mathlib.Core.Path.{_≡_};
 ghost use denote.Ref.{now};
-ghost use Prim.Native.Nat.{min, _%_, _^_};
+ghost use Prim.Native.Nat.{min, _%_};
 ghost use lib.ListN.{length, drop};
 ghost use Rattle.rows.specs.Widths.{places-of};
 ghost use Rattle.device.specs.States.{blank-state};

@@ -1,6 +1,6 @@
 -- What a device of one slot means.
 use mathlib.Core.Bool.{Bool, true, false, cond}
-use mathlib.Core.List.{List, [], _∷_}
+use mathlib.Core.List.{[], _∷_}
 use Prim.Native.Nat.{ℕ, _^_, _<_}
 use lib.Dec.{lit≤}
 use Rattle.std.specs.declared.option.Option.the-variants.{Some, None}

@@ -1,5 +1,4 @@
 // A device of one slot, written from outside the crate of the interface.
-ghost use mathlib.Core.Path.{_≡_};
 ghost use Prim.Native.Nat.{_^_, _<_};
 ghost use Rattle.rows.specs.Widths.{places-of};
 ghost use Rattle.device_tests.specs.OneSlots.{one-slot-state, one-slot-lawful};

@@ -1,14 +1,10 @@
 use mathlib.Core.Path.{_≡_, refl, sym, ap, _∙_}
-use mathlib.Core.Bool.{true, false}
-use mathlib.Core.List.{List, _∷_, []}
-use lib.ListN.{drop, getD, length}
+use lib.ListN.{drop}
 use Prim.Native.Nat.{_+_}
 use Rattle.std.proofs.shelf.Lists.{drop-all}
 use Rattle.std.proofs.shelf.Tests.{both-ways}
-use Rattle.device.specs.declared.call.DeviceCall.{DeviceCall}
-use Rattle.device.specs.declared.call.DeviceAnswer.{DeviceAnswer}
 use Rattle.device.specs.States.{DeviceState}
-use Rattle.device.specs.Replays.{answers-to, after-calls, answer-to}
+use Rattle.device.specs.Replays.{answers-to, after-calls}
 use Rattle.device.proofs.Plays.{answers-more, after-more, alike-more}
 use Rattle.device.proofs.replay.answer_alike.Needs as need
 use Rattle.device.proofs.replay.answer_alike.Needs.{then-not-same, else-not-same}

@@ -1,6 +1,6 @@
-use mathlib.Core.Path.{_≡_, refl, sym, ap, ap₂, _∙_}
+use mathlib.Core.Path.{refl, sym, ap, _∙_}
 use mathlib.Core.List.{List, _++_, append-nil}
-use lib.ListN.{drop, take, length}
+use lib.ListN.{take, length}
 use lib.Seq.{take-all}
 use Rattle.std.proofs.shelf.Lists.{drop-all}
 use native.Mathlib.Omega.{arith}

@@ -1,5 +1,5 @@
 use mathlib.Core.Path.{_≡_, sym, ap, ap₂, _∙_}
-use Prim.Native.Nat.{ℕ, _%_, _^_}
+use Prim.Native.Nat.{_%_, _^_}
 use lib.Bits.{bitAnd}
 use Rattle.std.specs.declared.option.Option.the-variants.{Some}
 use Rattle.rows.specs.Widths.{places-of}

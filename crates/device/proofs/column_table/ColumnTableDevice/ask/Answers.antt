@@ -1,11 +1,7 @@
 use borrow.Author.Needs.{needs}
-use mathlib.Core.Path.{_≡_, ap, _∙_}
-use mathlib.Core.Bool.{Bool, not, _&&_}
+use mathlib.Core.Path.{_∙_}
 use Prim.Native.Nat.{_^_, _<_}
-use lib.Dec.{eqb}
 use Rattle.rows.specs.Widths.{places-of}
-use Rattle.device.specs.States.{some-slot-takes}
-use Rattle.device.specs.Columns.{column-slots}
 use Rattle.device.specs.ColumnTables.{slot-count, column-table-state}
 use Rattle.device.proofs.Granted.{ask-is}
 use Rattle.device.proofs.Columns.{some-taking}

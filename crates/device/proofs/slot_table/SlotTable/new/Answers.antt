@@ -1,10 +1,10 @@
 use native.Mathlib.Omega.{arith}
 use native.Mathlib.Numerals.{add-one}
-use mathlib.Core.Path.{_≡_, refl, sym, ap, _∙_}
+use mathlib.Core.Path.{_≡_, refl, ap, _∙_}
 use mathlib.Core.Bool.{false}
 use mathlib.Core.List.{List, _∷_, [], _++_}
-use Prim.Native.Nat.{ℕ, _≤_, _<_, min}
-use lib.ListN.{length, take, drop, set, replicate}
+use Prim.Native.Nat.{ℕ, _<_, min}
+use lib.ListN.{length, take, set, replicate}
 use lib.Seq.{take-suc-set, drop-set-lt}
 use Rattle.std.proofs.shelf.Lists.{replicate-more}
 use Rattle.std.specs.declared.option.Option.the-variants.{None}
