@@ -12,7 +12,8 @@ use lib.ListN.{length}
 use lib.Pow.{pow-pos, pow-mono, pow-add}
 use Rattle.std.proofs.shelf.Bits.{shr-split, shr-below, div-below, le-div}
 use Rattle.std.proofs.shelf.Lists.{length-map, take-at}
-use Rattle.std.proofs.shelf.Tests.{cases-lt, le-leb, lt-leb, eq-eqb, ne-eqb}
+use Rattle.std.proofs.shelf.Tests.{cases-lt, lt-ltb, le-leb, lt-leb, eq-eqb, ne-eqb}
+use Rattle.std.specs.declared.result.Result.the-variants.{Ok}
 use Rattle.covers.specs.declared.symbol.Symbol.the-variants.{Zero, One, Dash}
 use Rattle.covers.specs.Symbols.{Symbols}
 use Rattle.covers.specs.Words.{value-word, care-word, symbols}
@@ -24,7 +25,7 @@ use Rattle.rows.specs.declared.row_words.RowWords.{RowWords}
 use Rattle.rows.specs.declared.lead.Lead.{Lead}
 use Rattle.rows.specs.Building.{behind-front, behind-lead, across-rows, Extended, Begun}
 use Rattle.rows.specs.Memory.{words-of}
-use Rattle.rows.specs.RangeRows.{rows-in}
+use Rattle.rows.specs.RangeRows.{range-answer, rows-in}
 use Rattle.rows.proofs.Fronts.{symbol, same-words, extended-row, extended-rows, plain-behind, digit-behind}
 use Rattle.rows.proofs.EndLists.{extend}
 
@@ -267,3 +268,7 @@ rows-read n rows rest k h e =
     back (r ∷ rows) h =
         ap₂ (λ (q : Symbols) (l : List Symbols). q ∷ l)
         (ap (λ v. symbols n v (care-word r)) (clean-word r) ∙ ap (λ m. symbols m (value-word r) (care-word r)) (sym (h .0)) ∙ symbols-back r) (back rows (h .1))
+
+-- a range of the width is granted where memory has room
+pub range-granted : (n f l room : ℕ) → f < 2 ^ n → l < 2 ^ n → length (rows-of-range n f l) ≤ room → range-answer n f l room ≡ Ok (length (rows-of-range n f l))
+range-granted n f l room hf hl h = rw (lt-ltb f (2 ^ n) hf, lt-ltb l (2 ^ n) hl, le-leb (length (rows-of-range n f l)) room h)

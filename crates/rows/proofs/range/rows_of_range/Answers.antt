@@ -20,7 +20,7 @@ use Rattle.rows.specs.Building.{written}
 use Rattle.rows.specs.Memory.{words-of}
 use Rattle.rows.specs.RangeRows.{range-answer, rows-in}
 use Rattle.rows.specs.Widths.{places-of}
-use Rattle.rows.proofs.RunLists.{rows-read}
+use Rattle.rows.proofs.RunLists.{range-granted, rows-read}
 use Rattle.rows.proofs.Widths.{places-some, places-most}
 use Rattle.rows.proofs.range.rows_of_range.Needs as need
 
@@ -32,10 +32,6 @@ part-copy-to-start-end c =
     let k = c .rows-of-its-run-count .ensures .count in
     let few : c .rows-of-its-run-count .result ≤ 62 = omega arith in
     search needs
-
--- an answer that is granted
-granted : (n f l room : ℕ) → f < 2 ^ n → l < 2 ^ n → length (rows-of-range n f l) ≤ room → range-answer n f l room ≡ Ok (length (rows-of-range n f l))
-granted n f l room hf hl h = rw (lt-ltb f (2 ^ n) hf, lt-ltb l (2 ^ n) hl, le-leb (length (rows-of-range n f l)) room h)
 
 -- the scratch from its start
 start : (rows : List RowWords) (scratch : List RowWords) (k : ℕ) → k ≡ length rows → take (k - 0) (written scratch 0 rows) ≡ rows
@@ -59,7 +55,7 @@ returns c =
     c .copy-to-start .ensures .copied ∙ ap₂ (λ (x : List RowWords) (j : ℕ). x ++ drop j (c .args .memory .now)) part (ap length part ∙ long ∙ sym e) in
     let back = ap (rows-in n k) all ∙ rows-read n rows (drop k (c .args .memory .now)) k (range-long n f l) e in
     record {
-      answer = ap Ok e ∙ sym (granted n f l (length (c .args .memory .now)) hf hl (omega arith));
+      answer = ap Ok e ∙ sym (range-granted n f l (length (c .args .memory .now)) hf hl (omega arith));
       written = all;
       untouched-when-refused = λ z. absurd (both-ways _ refl z);
       by-the-rules = back;
