@@ -3,7 +3,7 @@ use mathlib.Core.Path.{_≡_, refl, sym, ap, ap₂, _∙_}
 use Prim.Native.Nat.{ℕ, zero, suc, _+_, _*_, _/_, _%_, _<_}
 use native.Mathlib.Nat.{le-of-suc-le-suc, not-suc-le-zero, div-add-mod', mod-lt, zero-lt-suc}
 use lib.Arith.{bin-ind}
-use lib.Bits.{bitAnd, and-shr, and-mod, and-self}
+use lib.Bits.{bitAnd, bitXor, and-shr, and-mod, xor-shr, xor-mod, and-self}
 
 two-pos : zero < 2
 two-pos = zero-lt-suc 1
@@ -35,3 +35,24 @@ and-assoc =
 
 pub and-again : (a c : ℕ) → bitAnd (bitAnd a c) c ≡ bitAnd a c
 and-again a c = and-assoc a c c ∙ ap (bitAnd a) (and-self c)
+
+digit-over : (x y z : ℕ) → x < 2 → y < 2 → z < 2 → bitAnd (bitXor x y) z ≡ bitXor (bitAnd x z) (bitAnd y z)
+digit-over zero y z hx hy hz = refl
+digit-over (suc zero) zero zero hx hy hz = refl
+digit-over (suc zero) zero (suc zero) hx hy hz = refl
+digit-over (suc zero) zero (suc (suc z)) hx hy hz = not-digit hz
+digit-over (suc zero) (suc zero) zero hx hy hz = refl
+digit-over (suc zero) (suc zero) (suc zero) hx hy hz = refl
+digit-over (suc zero) (suc zero) (suc (suc z)) hx hy hz = not-digit hz
+digit-over (suc zero) (suc (suc y)) z hx hy hz = not-digit hy
+digit-over (suc (suc x)) y z hx hy hz = not-digit hx
+
+pub and-over-xor : (a b c : ℕ) → bitAnd (bitXor a b) c ≡ bitXor (bitAnd a c) (bitAnd b c)
+and-over-xor =
+    bin-ind (λ (n : ℕ). (b c : ℕ) → bitAnd (bitXor n b) c ≡ bitXor (bitAnd n c) (bitAnd b c)) (λ b c. refl)
+    (λ n ih b c. by-digits
+    (and-shr (bitXor n b) c 1 ∙ ap (λ (x : ℕ). bitAnd x (c / 2)) (xor-shr n b 1) ∙ ih (b / 2) (c / 2)
+    ∙ sym (xor-shr (bitAnd n c) (bitAnd b c) 1 ∙ ap₂ bitXor (and-shr n c 1) (and-shr b c 1)))
+    (and-mod (bitXor n b) c 1 ∙ ap (λ (x : ℕ). bitAnd x (c % 2)) (xor-mod n b 1)
+    ∙ digit-over (n % 2) (b % 2) (c % 2) (mod-lt n two-pos) (mod-lt b two-pos) (mod-lt c two-pos)
+    ∙ sym (xor-mod (bitAnd n c) (bitAnd b c) 1 ∙ ap₂ bitXor (and-mod n c 1) (and-mod b c 1))))

@@ -98,12 +98,13 @@ digit-and p x y =
     ap (λ k. eqb (k % 2) 1) (and-shr x y p) ∙ ap (λ k. eqb k 1) (and-mod (x / 2 ^ p) (y / 2 ^ p) 1) ∙
     bit-and (x / 2 ^ p % 2) (y / 2 ^ p % 2) (mod-lt (x / 2 ^ p) (zero-lt-suc 1)) (mod-lt (y / 2 ^ p) (zero-lt-suc 1))
 
-abbrev both : Digits → Digits → Digits
+-- the digits that are 1 in both
+abbrev pub both : Digits → Digits → Digits
 both [] v = []
 both (x ∷ u) [] = []
 both (x ∷ u) (y ∷ v) = (x && y) ∷ both u v
 
-digits-and : (n x y : ℕ) → digits n (bitAnd x y) ≡ both (digits n x) (digits n y)
+pub digits-and : (n x y : ℕ) → digits n (bitAnd x y) ≡ both (digits n x) (digits n y)
 digits-and zero x y = refl
 digits-and (suc m) x y = ap₂ (λ (t : Bool) (u : Digits). t ∷ u) (digit-and m x y) (digits-and m x y)
 
