@@ -15,6 +15,7 @@ pub mod Narrowest
 pub mod Exactness
 pub mod Shortness
 pub mod RowWords
+pub mod NarrowestWords
 pub mod RowLengths
 pub mod RowCounts
 pub mod Masks

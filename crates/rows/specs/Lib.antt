@@ -2,3 +2,4 @@ pub mod Refusals
 pub mod Widths
 pub mod RangeRows
 pub mod Building
+pub mod NarrowestRows

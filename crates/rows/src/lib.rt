@@ -10,3 +10,4 @@ mod straight;
 mod round;
 mod run;
 pub mod range;
+pub mod narrowest;
