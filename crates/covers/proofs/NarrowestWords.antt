@@ -1,21 +1,19 @@
 -- The narrowest row of two numbers as words.
-use mathlib.Core.Path.{_≡_, refl, sym, ap, ap₂, _∙_}
+use mathlib.Core.Path.{_≡_, refl, sym, ap, _∙_}
 use mathlib.Core.Bool.{Bool, true, false, not, cond, _&&_}
 use mathlib.Core.List.{[], _∷_}
-use Prim.Native.Nat.{ℕ, zero, suc, _+_, _-_, _/_, _%_, _^_, _<_}
+use Prim.Native.Nat.{ℕ, zero, suc, _-_, _/_, _%_, _^_, _<_}
 use native.Mathlib.Nat.{mod-lt, le-of-suc-le-suc, not-suc-le-zero, zero-lt-suc}
-use native.Mathlib.Omega.{arith}
 use lib.Bits.{bitAnd, bitXor, xor-shr, xor-mod, xor-lt}
 use lib.Dec.{eqb}
-use Rattle.std.proofs.shelf.Tests.{false≢true}
 use Rattle.covers.specs.declared.symbol.Symbol.the-variants.{Zero, One, Dash}
-use Rattle.covers.specs.Digits.{Digits, digit, digits, value, mirror}
+use Rattle.covers.specs.Digits.{Digits, digit, digits, mirror}
 use Rattle.covers.specs.Symbols.{Symbols, takes}
-use Rattle.covers.specs.Words.{symbol-at, symbols}
+use Rattle.covers.specs.Words.{symbols}
 use Rattle.covers.specs.Rivals.{narrowest}
-use Rattle.covers.proofs.Witnesses.{Same, mix-left, mix-right}
-use Rattle.covers.proofs.Order.{same-mirror}
-use Rattle.covers.proofs.Numbers.{value-digits, of-value, length-digits, same-digits, mirror-value}
+use Rattle.covers.proofs.Witnesses.{mix-left, mix-right}
+use Rattle.covers.proofs.Numbers.{same-digits}
+use Rattle.covers.proofs.Equations.{mirror-digits}
 use Rattle.covers.proofs.RowWords.{digit-and}
 use Rattle.covers.proofs.Narrowest.{narrowest-takes, takes-narrowest}
 use Rattle.covers.proofs.LowerBound.{mix-takes}
@@ -35,16 +33,6 @@ pub digit-xor : (p x y : ℕ) → digit p (bitXor x y) ≡ differ (digit p x) (d
 digit-xor p x y =
     ap (λ k. eqb (k % 2) 1) (xor-shr x y p) ∙ ap (λ k. eqb k 1) (xor-mod (x / 2 ^ p) (y / 2 ^ p) 1) ∙
     bit-xor (x / 2 ^ p % 2) (y / 2 ^ p % 2) (mod-lt (x / 2 ^ p) (zero-lt-suc 1)) (mod-lt (y / 2 ^ p) (zero-lt-suc 1))
-
--- the digits of a mirrored number
-digits-mirror : (n x : ℕ) → x < 2 ^ n → digits n (2 ^ n - 1 - x) ≡ mirror (digits n x)
-digits-mirror n x h =
-    let u = digits n x in
-    let m = mirror-value (digits n x) in
-    let v = value-digits n x h in
-    let p = ap (λ k. 2 ^ k) (length-digits n x) in
-    let is : 2 ^ n - 1 - x ≡ value (mirror (digits n x)) = omega arith in
-    ap (digits n) is ∙ of-value n x (mirror (digits n x)) (same-mirror (digits n x))
 
 -- the symbol at a place where the care mask has a 1 just if the digits agree
 narrow-symbol : (x y v c : Bool) → c ≡ not (differ x y) → v ≡ (x && c) → (u w : Digits) (r : Symbols) → r ≡ narrowest u w →
@@ -69,7 +57,7 @@ narrow-words (suc m) a b care e =
 
 -- care where the numbers agree, and the digits of one of them
 pub narrowest-words : (n a b : ℕ) → a < 2 ^ n → b < 2 ^ n → symbols n (bitAnd a (2 ^ n - 1 - bitXor a b)) (2 ^ n - 1 - bitXor a b) ≡ narrowest (digits n a) (digits n b)
-narrowest-words n a b ha hb = narrow-words n a b (2 ^ n - 1 - bitXor a b) (digits-mirror n (bitXor a b) (xor-lt n a b ha hb))
+narrowest-words n a b ha hb = narrow-words n a b (2 ^ n - 1 - bitXor a b) (sym (mirror-digits n (bitXor a b) (xor-lt n a b ha hb)))
 
 -- it takes both, and nothing that a row which takes both does not
 pub narrowest-both : (n a b : ℕ) → (takes (narrowest (digits n a) (digits n b)) (digits n a) ≡ true) × (takes (narrowest (digits n a) (digits n b)) (digits n b) ≡ true)
