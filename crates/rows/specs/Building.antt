@@ -71,6 +71,6 @@ pub record Begun (front : RowWords) (lead : Lead) (m : ℕ) (exchanged : Bool) :
 unfoldable pub across-rows : ℕ → ℕ → ℕ → List Symbols
 across-rows m a b = straight-rows (suc m) a (2 ^ m + b)
 
--- memory with rows written from an index on
-abbrev pub written : List RowWords → ℕ → List RowWords → List RowWords
-written memory at rows = take at memory ++ (rows ++ drop (at + length rows) memory)
+-- memory with a list written from an index on
+abbrev pub written : {X : Type 0} → List X → ℕ → List X → List X
+written memory at these = take at memory ++ (these ++ drop (at + length these) memory)

@@ -1,4 +1,4 @@
-// Widths, rows, and the rows of a range.
+// Widths, rows, the rows of a range, and its witness.
 pub mod refusal;
 pub mod width;
 pub mod row;
@@ -11,3 +11,6 @@ mod round;
 mod run;
 pub mod range;
 pub mod narrowest;
+mod turned;
+mod beside;
+pub mod witness;

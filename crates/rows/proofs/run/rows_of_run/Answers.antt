@@ -5,7 +5,8 @@ use lib.ListN.{length}
 use lib.Pow.{pow-mono}
 use mathlib.Core.List.{map}
 use Rattle.rows.specs.Building.{words-of, written}
-use Rattle.rows.proofs.RunLists.{words-behind, run-straight, run-round}
+use Rattle.covers.proofs.WitnessCounts.{run-straight, run-round}
+use Rattle.rows.proofs.RunLists.{words-behind}
 use Rattle.rows.proofs.run.rows_of_run.Needs as need
 
 pub rows-of-straight-requires : need.rows-of-straight-requires
