@@ -9,7 +9,7 @@ use native.Mathlib.Omega.{arith}
 use lib.Pow.{pow-pos}
 use Rattle.std.specs.shelf.Lists.{All}
 use Rattle.std.proofs.shelf.Bits.{shr-high, mod-low}
-use Rattle.std.proofs.shelf.Tests.{cases-bool, cases-lt, cases-eq, both-ways, ltb-true, ltb-false}
+use Rattle.std.proofs.shelf.Tests.{cases-lt, cases-eq, both-ways, ltb-true, ltb-false}
 use Rattle.covers.specs.Digits.{digit, digits}
 use Rattle.covers.specs.Rivals.{NumberSet, Pairs, Parted}
 use Rattle.covers.specs.WitnessNumbers.{alike, turned, each-turned, one-turned, under, inner-numbers, parting-numbers}
@@ -32,23 +32,23 @@ exchanged n x y z f q h = elim (f q h) [ inl e ↦ inr e | inr e ↦ inl e ]
 -- a number turned at two places mixes to itself
 turned-twice : (n p q x : ℕ) → (p ≡ q → ⊥) → Mixes n (turned p x) (turned q x) x
 turned-twice n p q x ne j h = elim (cases-eq j p) [
-    | inl e ↦ inr (sym (unturned q j x (λ k. ne (sym e ∙ k))))
-    | inr e ↦ inl (sym (unturned p j x e))
-  ]
+  | inl e ↦ inr (sym (unturned q j x (λ k. ne (sym e ∙ k))))
+  | inr e ↦ inl (sym (unturned p j x e))
+]
 
 -- one turned where the other has the same digit
 turned-alike : (n p q x y : ℕ) → (q ≡ p → ⊥) → digit q x ≡ digit q y → Mixes n (turned p x) (turned q y) y
 turned-alike n p q x y ne same j h = elim (cases-eq j q) [
-    | inl e ↦ inl (ap (λ k. digit k y) e ∙ sym same ∙ sym (unturned p q x ne) ∙ ap (λ k. digit k (turned p x)) (sym e))
-    | inr e ↦ inr (sym (unturned q j y e))
-  ]
+  | inl e ↦ inl (ap (λ k. digit k y) e ∙ sym same ∙ sym (unturned p q x ne) ∙ ap (λ k. digit k (turned p x)) (sym e))
+  | inr e ↦ inr (sym (unturned q j y e))
+]
 
 -- the last r digits of the one behind those before of the other, which is turned behind
 spliced : (n q r x y : ℕ) → q < r → Mixes n x (turned q y) (y / 2 ^ r * 2 ^ r + x % 2 ^ r)
 spliced n q r x y l j h = elim (cases-lt j r) [
-    | inl k ↦ inl (same-low r j (y / 2 ^ r * 2 ^ r + x % 2 ^ r) x (mod-low (y / 2 ^ r) r (x % 2 ^ r) (mod-lt x (pow-pos r))) k)
-    | inr k ↦ inr (same-high r j (y / 2 ^ r * 2 ^ r + x % 2 ^ r) y (shr-high (y / 2 ^ r) r (x % 2 ^ r) (mod-lt x (pow-pos r))) k ∙ sym (unturned q j y (λ e. omega arith)))
-  ]
+  | inl k ↦ inl (same-low r j (y / 2 ^ r * 2 ^ r + x % 2 ^ r) x (mod-low (y / 2 ^ r) r (x % 2 ^ r) (mod-lt x (pow-pos r))) k)
+  | inr k ↦ inr (same-high r j (y / 2 ^ r * 2 ^ r + x % 2 ^ r) y (shr-high (y / 2 ^ r) r (x % 2 ^ r) (mod-lt x (pow-pos r))) k ∙ sym (unturned q j y (λ e. omega arith)))
+]
 
 module _ (n : ℕ) (S : NumberSet) (before after : ℕ) where
   abbrev pub Member : ℕ → Type 0
@@ -89,11 +89,11 @@ module _ (n : ℕ) (S : NumberSet) (before after : ℕ) where
   module _ (before-out : Outside before) (after-out : Outside after) where
     raised-lowered : (m p q x y : ℕ) → Raised m p x → Lowered m q y → (z : ℕ) × Outside z × Mixes n x y z
     raised-lowered m p q x y R L = elim (L .reach) [
-        | inl e ↦
-            let ne : q ≡ p → ⊥ = λ k. R .free (ap (λ j. digit j before) (sym k) ∙ e) (ap (λ j. digit j after) (sym k) ∙ L .one) in
-            (after, after-out, rw (R .is, L .is) (turned-alike n p q before after ne (e ∙ sym (L .one))))
-        | inr d ↦ (after / 2 ^ d .0 * 2 ^ d .0 + x % 2 ^ d .0, d .3 x (R .least (d .0) (d .2)), rw (L .is) (spliced n q (d .0) x after (d .1)))
-      ]
+      | inl e ↦
+          let ne : q ≡ p → ⊥ = λ k. R .free (ap (λ j. digit j before) (sym k) ∙ e) (ap (λ j. digit j after) (sym k) ∙ L .one) in
+          (after, after-out, rw (R .is, L .is) (turned-alike n p q before after ne (e ∙ sym (L .one))))
+      | inr d ↦ (after / 2 ^ d .0 * 2 ^ d .0 + x % 2 ^ d .0, d .3 x (R .least (d .0) (d .2)), rw (L .is) (spliced n q (d .0) x after (d .1)))
+    ]
 
     sides-parted : (m p q x y : ℕ) → (p ≡ q → ⊥) → Side m p x → Side m q y → Parted n S x y
     sides-parted m p q x y ne (inl R) (inl R′) = parted-by x y before before-out (rw (R .is, R′ .is) (turned-twice n p q before ne))
@@ -189,9 +189,9 @@ module _ (n : ℕ) (S : NumberSet) (before after : ℕ) where
             where
               first-one : before % 2 ^ suc p < after % 2 ^ suc p → digit p before ≡ true → digit p after ≡ true
               first-one l one = elim (cases-lt (after % 2 ^ suc p) (2 ^ p)) [
-                  | inl k ↦ let s = rw one at (digit-split p before) in let z : ⊥ = omega arith in absurd z
-                  | inr k ↦ digit-1 p after k .0
-                ]
+                | inl k ↦ let s = rw one at (digit-split p before) in let z : ⊥ = omega arith in absurd z
+                | inr k ↦ digit-1 p after k .0
+              ]
           go false e ih = subst (Sound m (suc p)) (sym (inner-rest (suc p) before after e)) (both-turned (suc p) h k (ltb-false (before % 2 ^ suc p) (after % 2 ^ suc p) e))
 
       -- where both differ at place m

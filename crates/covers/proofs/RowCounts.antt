@@ -157,23 +157,23 @@ ones-more m x h =
 -- how many rows the lowest numbers have, and the highest
 pub lowest-ones : (m b : ℕ) → b < 2 ^ m → length (straight-rows m 0 b) ≡ ones (b + 1)
 lowest-ones m b h = elim (cases-lt (b + 1) (2 ^ m)) [
-    | inl l ↦ ap length (equations-hold .from-zero m b l) ∙ below-ones m (b + 1) l
-    | inr l ↦
-        let top : b ≡ 2 ^ m - 1 = omega arith in
-        let e : 2 ^ m + 0 ≡ b + 1 = omega arith in
-        let k = ones-more m 0 (pow-pos m) in
-        let none = ones-ones 0 in
-        let count = ap ones e in
-        ap (λ j. length (straight-rows m 0 j)) top ∙ ap length (equations-hold .whole m) ∙ omega arith
-  ]
+  | inl l ↦ ap length (equations-hold .from-zero m b l) ∙ below-ones m (b + 1) l
+  | inr l ↦
+      let top : b ≡ 2 ^ m - 1 = omega arith in
+      let e : 2 ^ m + 0 ≡ b + 1 = omega arith in
+      let k = ones-more m 0 (pow-pos m) in
+      let none = ones-ones 0 in
+      let count = ap ones e in
+      ap (λ j. length (straight-rows m 0 j)) top ∙ ap length (equations-hold .whole m) ∙ omega arith
+]
 
 pub highest-ones : (m a : ℕ) → a < 2 ^ m → length (straight-rows m a (2 ^ m - 1)) ≡ ones (2 ^ m - a)
 highest-ones m a h = elim (cases-lt 0 a) [
-    | inl p ↦
-        let e : 2 ^ m - 1 - a + 1 ≡ 2 ^ m - a = omega arith in
-        ap length (equations-hold .to-highest m a p h) ∙ length-map (straight-rows m 0 (2 ^ m - 1 - a)) (map swap) ∙ lowest-ones m (2 ^ m - 1 - a) (omega arith) ∙ ap ones e
-    | inr p ↦
-        let z : a ≡ 0 = omega arith in
-        let e : 2 ^ m - 1 + 1 ≡ 2 ^ m - a = omega arith in
-        ap (λ j. length (straight-rows m j (2 ^ m - 1))) z ∙ lowest-ones m (2 ^ m - 1) (omega arith) ∙ ap ones e
-  ]
+  | inl p ↦
+      let e : 2 ^ m - 1 - a + 1 ≡ 2 ^ m - a = omega arith in
+      ap length (equations-hold .to-highest m a p h) ∙ length-map (straight-rows m 0 (2 ^ m - 1 - a)) (map swap) ∙ lowest-ones m (2 ^ m - 1 - a) (omega arith) ∙ ap ones e
+  | inr p ↦
+      let z : a ≡ 0 = omega arith in
+      let e : 2 ^ m - 1 + 1 ≡ 2 ^ m - a = omega arith in
+      ap (λ j. length (straight-rows m j (2 ^ m - 1))) z ∙ lowest-ones m (2 ^ m - 1) (omega arith) ∙ ap ones e
+]

@@ -1,6 +1,6 @@
 -- No list that takes just the numbers of a run is shorter than ours; and the same, up to a factor, for several runs.
 use mathlib.Core.Path.{_≡_, refl, sym, ap, subst, _∙_}
-use mathlib.Core.Bool.{Bool, true, false, _||_}
+use mathlib.Core.Bool.{Bool, true, false}
 use mathlib.Core.List.{List, [], _∷_, map}
 use mathlib.Core.Logic.{_⊎_, inl, inr}
 use Prim.Native.Nat.{ℕ, suc, _+_, _*_, _^_, _≤_, _<_}
@@ -10,10 +10,10 @@ use lib.Dec.{leb}
 use lib.ListN.{length}
 use Rattle.std.specs.shelf.Lists.{All}
 use Rattle.std.proofs.shelf.Lists.{length-map, length-append}
-use Rattle.std.proofs.shelf.Tests.{both-ways, or-left, or-right, leb-true, leb-false}
-use Rattle.covers.specs.Digits.{Digits, digits, value, leq, all-ones, all-zeros, next}
+use Rattle.std.proofs.shelf.Tests.{or-left, or-right, leb-true, leb-false}
+use Rattle.covers.specs.Digits.{Digits, digits, value, all-ones, all-zeros, next}
 use Rattle.covers.specs.Symbols.{Symbols, takes, list-takes}
-use Rattle.covers.specs.Rules.{straight-rows, round-rows, rows-of-run, rows-of-runs}
+use Rattle.covers.specs.Rules.{rows-of-run, rows-of-runs}
 use Rattle.covers.specs.Rivals.{in-range, in-ranges, Rival, Shortest, Within}
 use Rattle.covers.specs.WitnessNumbers.{numbers-of-range}
 use Rattle.covers.specs.Theorems.{Run, Lower-bound, Lists-witnessed, Lists-shortest, Untouched}

@@ -1,8 +1,8 @@
 -- The digits of a number of which one digit was turned, and the lists of such numbers place by place.
 use mathlib.Core.Path.{_≡_, refl, sym, ap, _∙_}
 use mathlib.Core.Bool.{Bool, true, false, cond}
-use mathlib.Core.Logic.{_⊎_, inl, inr}
-use mathlib.Core.List.{[], _∷_, _++_}
+use mathlib.Core.Logic.{inl, inr}
+use mathlib.Core.List.{_∷_, _++_}
 use Prim.Native.Nat.{ℕ, zero, suc, _+_, _-_, _*_, _/_, _%_, _^_, _≤_, _<_}
 use native.Mathlib.Nat.{add-mul, mod-lt}
 use native.Mathlib.Omega.{arith}
@@ -10,7 +10,7 @@ use lib.Dec.{eqb}
 use lib.Pow.{pow-pos, pow-add, mod-mod-pow}
 use lib.Arith.{digits-lt}
 use Rattle.std.proofs.shelf.Bits.{shr-split, shr-shr, shr-high, mod-low, mod-pow-add, shr-below, div-below}
-use Rattle.std.proofs.shelf.Tests.{cases-bool, cases-lt, cases-eq, eqb-true, eqb-false, both-ways}
+use Rattle.std.proofs.shelf.Tests.{cases-bool, cases-lt, eqb-true, eqb-false}
 use Rattle.covers.specs.Digits.{digit}
 use Rattle.covers.specs.WitnessNumbers.{alike, turned, each-turned, one-turned, under, inner-numbers, parting-numbers, numbers-beside}
 use Rattle.covers.proofs.Numbers.{digit-low}
@@ -44,9 +44,9 @@ digit-is-0 p x e = let k = eqb-false (x / 2 ^ p % 2) 1 e in omega arith
 -- the last p + 1 digits: the first of them and the rest
 pub digit-split : (p x : ℕ) → x % 2 ^ suc p ≡ cond (digit p x) (2 ^ p) 0 + x % 2 ^ p
 digit-split p x = elim (cases-bool (digit p x)) [
-    | inl e ↦ rw e (let k = digit-is-1 p x e in step ∙ ap (λ j. j * 2 ^ p + x % 2 ^ p) k ∙ omega arith)
-    | inr e ↦ rw e (let k = digit-is-0 p x e in step ∙ ap (λ j. j * 2 ^ p + x % 2 ^ p) k ∙ omega arith)
-  ]
+  | inl e ↦ rw e (let k = digit-is-1 p x e in step ∙ ap (λ j. j * 2 ^ p + x % 2 ^ p) k ∙ omega arith)
+  | inr e ↦ rw e (let k = digit-is-0 p x e in step ∙ ap (λ j. j * 2 ^ p + x % 2 ^ p) k ∙ omega arith)
+]
   where
     step : x % 2 ^ suc p ≡ x / 2 ^ p % 2 * 2 ^ p + x % 2 ^ p
     step = let s : suc p ≡ 1 + p = omega arith in ap (λ j. x % 2 ^ j) s ∙ mod-pow-add x 1 p
@@ -68,9 +68,9 @@ digit-1 p x h = go (digit p x) refl
 -- what stands before a digit, with it and without
 pub digit-head : (p x : ℕ) → x / 2 ^ p ≡ x / 2 ^ suc p * 2 + cond (digit p x) 1 0
 digit-head p x = elim (cases-bool (digit p x)) [
-    | inl e ↦ rw e (let k = digit-is-1 p x e in let h = halved in omega arith)
-    | inr e ↦ rw e (let k = digit-is-0 p x e in let h = halved in omega arith)
-  ]
+  | inl e ↦ rw e (let k = digit-is-1 p x e in let h = halved in omega arith)
+  | inr e ↦ rw e (let k = digit-is-0 p x e in let h = halved in omega arith)
+]
   where
     halved : x / 2 ^ p / 2 ≡ x / 2 ^ suc p
     halved = let s : p + 1 ≡ suc p = omega arith in shr-shr x p 1 ∙ ap (λ j. x / 2 ^ j) s
@@ -130,21 +130,21 @@ turned-behind p r x h = low-low r p (turned p x) x (turned-low p x) h
 -- the other digits stay
 pub unturned : (p q x : ℕ) → (q ≡ p → ⊥) → digit q (turned p x) ≡ digit q x
 unturned p q x ne = elim (cases-lt q p) [
-    | inl h ↦ same-low p q (turned p x) x (turned-low p x) h
-    | inr h ↦ same-high (suc p) q (turned p x) x (turned-high p x) (omega arith)
-  ]
+  | inl h ↦ same-low p q (turned p x) x (turned-low p x) h
+  | inr h ↦ same-high (suc p) q (turned p x) x (turned-high p x) (omega arith)
+]
 
 -- raised, it is not lower by its last digits
 pub raised-least : (p r x : ℕ) → digit p x ≡ false → x % 2 ^ r ≤ turned p x % 2 ^ r
 raised-least p r x e = elim (cases-lt p r) [
-    | inl h ↦
-        let s = shr-split x r in
-        let t = shr-split (turned p x) r in
-        let k = ap (λ j. j * 2 ^ r) (turned-before p r x h) in
-        let i = raised-is p x e in
-        omega arith
-    | inr h ↦ let k = turned-behind p r x h in omega arith
-  ]
+  | inl h ↦
+      let s = shr-split x r in
+      let t = shr-split (turned p x) r in
+      let k = ap (λ j. j * 2 ^ r) (turned-before p r x h) in
+      let i = raised-is p x e in
+      omega arith
+  | inr h ↦ let k = turned-behind p r x h in omega arith
+]
 
 -- a number with other digits at the last places still fits
 pub fits-anyway : (n r x low : ℕ) → x < 2 ^ n → r ≤ n → low < 2 ^ r → x / 2 ^ r * 2 ^ r + low < 2 ^ n

@@ -1,6 +1,6 @@
 -- The numbers of a range are a witness of it.
 use mathlib.Core.Path.{_≡_, refl, sym, ap, subst, _∙_}
-use mathlib.Core.Bool.{Bool, true, false, cond, _&&_, _||_}
+use mathlib.Core.Bool.{Bool, true, false, cond}
 use mathlib.Core.List.{List, [], _∷_}
 use mathlib.Core.Logic.{_⊎_, inl, inr}
 use Prim.Native.Nat.{ℕ, zero, suc, _+_, _-_, _*_, _/_, _%_, _^_, _≤_, _<_}
@@ -10,7 +10,7 @@ use lib.Dec.{eqb, leb}
 use lib.Pow.{pow-pos}
 use Rattle.std.specs.shelf.Lists.{All}
 use Rattle.std.proofs.shelf.Bits.{shr-split, shr-high, div-below}
-use Rattle.std.proofs.shelf.Tests.{cases-lt, cases-eq, eqb-true, eqb-false, leb-true, leb-false, le-leb, lt-leb, ltb-true}
+use Rattle.std.proofs.shelf.Tests.{cases-lt, eqb-false, leb-true, leb-false, le-leb, lt-leb, ltb-true}
 use Rattle.std.proofs.shelf.Ways.{tells}
 use Rattle.covers.specs.Digits.{digit}
 use Rattle.covers.specs.Rivals.{NumberSet, in-range, Pairs, Parted, Witness}
@@ -196,23 +196,23 @@ module _ (n : ℕ) (S : NumberSet) (before after : ℕ) (hb : before < 2 ^ n) (o
 -- the number before and the number after on the circle
 pub before-is : (n x : ℕ) → x < 2 ^ n → ((x ≡ 0) × (number-before n x ≡ 2 ^ n - 1)) ⊎ ((0 < x) × (number-before n x ≡ x - 1))
 before-is n x h = elim (cases-lt 0 x) [
-    | inl p ↦
-        let l : 2 ^ n ≤ x + 2 ^ n - 1 = omega arith in
-        let e : x + 2 ^ n - 1 - 2 ^ n ≡ x - 1 = omega arith in
-        let k : x - 1 < 2 ^ n = omega arith in
-        inr (p, mod-eq-sub-mod l ∙ ap (λ j. j % 2 ^ n) e ∙ mod-eq-of-lt k)
-    | inr p ↦
-        let z : x ≡ 0 = omega arith in
-        let e : x + 2 ^ n - 1 ≡ 2 ^ n - 1 = omega arith in
-        let k : 2 ^ n - 1 < 2 ^ n = omega arith in
-        inl (z, ap (λ j. j % 2 ^ n) e ∙ mod-eq-of-lt k)
-  ]
+  | inl p ↦
+      let l : 2 ^ n ≤ x + 2 ^ n - 1 = omega arith in
+      let e : x + 2 ^ n - 1 - 2 ^ n ≡ x - 1 = omega arith in
+      let k : x - 1 < 2 ^ n = omega arith in
+      inr (p, mod-eq-sub-mod l ∙ ap (λ j. j % 2 ^ n) e ∙ mod-eq-of-lt k)
+  | inr p ↦
+      let z : x ≡ 0 = omega arith in
+      let e : x + 2 ^ n - 1 ≡ 2 ^ n - 1 = omega arith in
+      let k : 2 ^ n - 1 < 2 ^ n = omega arith in
+      inl (z, ap (λ j. j % 2 ^ n) e ∙ mod-eq-of-lt k)
+]
 
 pub after-is : (n x : ℕ) → x < 2 ^ n → ((x + 1 ≡ 2 ^ n) × (number-after n x ≡ 0)) ⊎ ((x + 1 < 2 ^ n) × (number-after n x ≡ x + 1))
 after-is n x h = elim (cases-lt (x + 1) (2 ^ n)) [
-    | inl p ↦ inr (p, mod-eq-of-lt p)
-    | inr p ↦ let e : x + 1 ≡ 2 ^ n = omega arith in inl (e, ap (λ j. j % 2 ^ n) e ∙ mod-self (2 ^ n))
-  ]
+  | inl p ↦ inr (p, mod-eq-of-lt p)
+  | inr p ↦ let e : x + 1 ≡ 2 ^ n = omega arith in inl (e, ap (λ j. j % 2 ^ n) e ∙ mod-self (2 ^ n))
+]
 
 first-in : (f l : ℕ) → in-range f l f ≡ true
 first-in f l = grind (arith, tells)
@@ -222,12 +222,12 @@ module _ (N f l b a : ℕ) (hf : f < N) (hl : l < N) (first : ((f ≡ 0) × (b �
   -- where there is a number before it and a number after it
   inner-range : b < a → (b ≡ f - 1) × (a ≡ l + 1) × (0 < f) × (f ≤ l)
   inner-range h = elim first [
-      | inl p ↦ elim last [ inl q ↦ let z : ⊥ = omega arith in absurd z | inr q ↦ let z : ⊥ = omega arith in absurd z ]
-      | inr p ↦ elim last [
-          | inl q ↦ let z : ⊥ = omega arith in absurd z
-          | inr q ↦ let ne : l + 1 ≡ f → ⊥ = λ k. proper (q .1 ∙ k) in (p .1, q .1, p .0, omega arith)
-        ]
+    | inl p ↦ elim last [ inl q ↦ let z : ⊥ = omega arith in absurd z | inr q ↦ let z : ⊥ = omega arith in absurd z ]
+    | inr p ↦ elim last [
+      | inl q ↦ let z : ⊥ = omega arith in absurd z
+      | inr q ↦ let ne : l + 1 ≡ f → ⊥ = λ k. proper (q .1 ∙ k) in (p .1, q .1, p .0, omega arith)
     ]
+  ]
 
   in-between : b < a → (x : ℕ) → b < x → x < a → in-range f l x ≡ true
   in-between h x p q = let (u, v, w, o) = inner-range h in rw (le-leb f l o) (grind (arith, tells))
@@ -240,27 +240,27 @@ module _ (N f l b a : ℕ) (hf : f < N) (hl : l < N) (first : ((f ≡ 0) × (b �
 
   in-around : a ≤ b → (x : ℕ) → x < N → (b < x) ⊎ (x < a) → in-range f l x ≡ true
   in-around h x hx c = elim c [
-      | inl k ↦ elim first [
-          | inl p ↦ let z : ⊥ = omega arith in absurd z
-          | inr p ↦ elim last [ inl q ↦ let o : f ≤ l = omega arith in rw (le-leb f l o) (grind (arith, tells)) | inr q ↦ let o : l < f = omega arith in rw (lt-leb f l o) (grind (arith, tells)) ]
-        ]
-      | inr k ↦ elim last [
-          | inl q ↦ let z : ⊥ = omega arith in absurd z
-          | inr q ↦ elim first [ inl p ↦ let o : f ≤ l = omega arith in rw (le-leb f l o) (grind (arith, tells)) | inr p ↦ let o : l < f = omega arith in rw (lt-leb f l o) (grind (arith, tells)) ]
-        ]
+    | inl k ↦ elim first [
+      | inl p ↦ let z : ⊥ = omega arith in absurd z
+      | inr p ↦ elim last [ inl q ↦ let o : f ≤ l = omega arith in rw (le-leb f l o) (grind (arith, tells)) | inr q ↦ let o : l < f = omega arith in rw (lt-leb f l o) (grind (arith, tells)) ]
     ]
+    | inr k ↦ elim last [
+      | inl q ↦ let z : ⊥ = omega arith in absurd z
+      | inr q ↦ elim first [ inl p ↦ let o : f ≤ l = omega arith in rw (le-leb f l o) (grind (arith, tells)) | inr p ↦ let o : l < f = omega arith in rw (lt-leb f l o) (grind (arith, tells)) ]
+    ]
+  ]
 
   out-around : a ≤ b → (x : ℕ) → a ≤ x → x ≤ b → in-range f l x ≡ false
   out-around h x k j = elim first [
-      | inl p ↦ elim last [
-          | inl q ↦ absurd (proper (q .1 ∙ sym (p .0)))
-          | inr q ↦ let o : f ≤ l = omega arith in rw (le-leb f l o) (grind (arith, tells))
-        ]
-      | inr p ↦ elim last [
-          | inl q ↦ let o : f ≤ l = omega arith in rw (le-leb f l o) (grind (arith, tells))
-          | inr q ↦ let o : l < f = omega arith in rw (lt-leb f l o) (grind (arith, tells))
-        ]
+    | inl p ↦ elim last [
+      | inl q ↦ absurd (proper (q .1 ∙ sym (p .0)))
+      | inr q ↦ let o : f ≤ l = omega arith in rw (le-leb f l o) (grind (arith, tells))
     ]
+    | inr p ↦ elim last [
+      | inl q ↦ let o : f ≤ l = omega arith in rw (le-leb f l o) (grind (arith, tells))
+      | inr q ↦ let o : l < f = omega arith in rw (lt-leb f l o) (grind (arith, tells))
+    ]
+  ]
 
 no-head : (n x : ℕ) → x < 2 ^ n → x / 2 ^ n ≡ 0
 no-head n x h = let k = div-below x (2 ^ n) 1 (pow-pos n) (omega arith) in omega arith
@@ -282,15 +282,15 @@ numbers-witness n f l hf hl = go (eqb (number-after n l) f) refl
     by-order ne true e =
         let o = leb-true (number-after n l) (number-before n f) e in
         let W = around-sound n (in-range f l) (number-before n f) (number-after n l) before-fits o
-            (in-around (2 ^ n) f l (number-before n f) (number-after n l) hf hl (before-is n f hf) (after-is n l hl) ne o)
-            (out-around (2 ^ n) f l (number-before n f) (number-after n l) hf hl (before-is n f hf) (after-is n l hl) ne o) n (omega arith) heads in
+        (in-around (2 ^ n) f l (number-before n f) (number-after n l) hf hl (before-is n f hf) (after-is n l hl) ne o)
+        (out-around (2 ^ n) f l (number-before n f) (number-after n l) hf hl (before-is n f hf) (after-is n l hl) ne o) n (omega arith) heads in
         record { members = all-mono (λ x t. t .0) (numbers-beside true n (number-before n f) (number-after n l)) (W .1 .each); parted = W .1 .apart }
     by-order ne false e =
         let o = leb-false (number-after n l) (number-before n f) e in
         let W = between-sound n (in-range f l) (number-before n f) (number-after n l) before-fits after-fits o
-            (in-between (2 ^ n) f l (number-before n f) (number-after n l) hf hl (before-is n f hf) (after-is n l hl) ne o)
-            (out-low (2 ^ n) f l (number-before n f) (number-after n l) hf hl (before-is n f hf) (after-is n l hl) ne o)
-            (out-high (2 ^ n) f l (number-before n f) (number-after n l) hf hl (before-is n f hf) (after-is n l hl) ne o) n (omega arith) heads in
+        (in-between (2 ^ n) f l (number-before n f) (number-after n l) hf hl (before-is n f hf) (after-is n l hl) ne o)
+        (out-low (2 ^ n) f l (number-before n f) (number-after n l) hf hl (before-is n f hf) (after-is n l hl) ne o)
+        (out-high (2 ^ n) f l (number-before n f) (number-after n l) hf hl (before-is n f hf) (after-is n l hl) ne o) n (omega arith) heads in
         record { members = W .0; parted = W .1 }
 
     go : (t : Bool) → eqb (number-after n l) f ≡ t →

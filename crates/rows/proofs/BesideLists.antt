@@ -2,9 +2,9 @@
 use mathlib.Core.Path.{_≡_, refl, sym, ap, ap₂, _∙_}
 use mathlib.Core.Bool.{Bool, true, false, not, cond, Bool·beq}
 use mathlib.Core.List.{[], _∷_}
-use Prim.Native.Nat.{ℕ, zero, suc, _+_, _-_, _%_, _^_, _<_}
+use Prim.Native.Nat.{ℕ, suc, _+_, _-_, _%_, _^_, _<_}
 use native.Mathlib.Omega.{arith}
-use lib.Dec.{eqb, leb}
+use lib.Dec.{leb}
 use Rattle.std.proofs.shelf.Tests.{both-ways, lt-ltb, eq-eqb, ne-eqb}
 use Rattle.covers.specs.Digits.{digit}
 use Rattle.covers.specs.WitnessNumbers.{alike, turned, each-turned, one-turned, inner-numbers, parting-numbers, numbers-beside, number-before, number-after, numbers-of-range}

@@ -10,7 +10,14 @@ use super::turned::write_each_turned;
 
 // Writes one number for each digit that both share, if the number after is not over the number before, and from where
 // they differ on those of the places behind; answers the index after them.
-pub(super) fn write_beside(before: u64, after: u64, places: u32, over: bool, out: &mut [u64], at: usize) -> usize
+pub(super) fn write_beside(
+    before: u64,
+    after: u64,
+    places: u32,
+    over: bool,
+    out: &mut [u64],
+    at: usize,
+) -> usize
     requires places_within { ⌜ places ≤ 32 ⌝ }
     requires before_within { ⌜ before < 2 ^ 32 ⌝ }
     requires after_within { ⌜ after < 2 ^ 32 ⌝ }
@@ -77,6 +84,10 @@ fn with_one_turned(before: u64, after: u64, place: u32) -> u64
     requires after_within { ⌜ after < 2 ^ 32 ⌝ }
     ensures value { λ r. ⌜ r ≡ one-turned place before after ⌝ }
 {
-    let number = if has_one(before, place) { after } else { before };
+    let number = if has_one(before, place) {
+        after
+    } else {
+        before
+    };
     with_digit_turned(number, place)
 }

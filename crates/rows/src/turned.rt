@@ -21,11 +21,21 @@ pub(super) fn with_digit_turned(number: u64, place: u32) -> u64
     ensures value { λ r. ⌜ r ≡ turned place number ⌝ }
 {
     let step = 1u64 << place;
-    if has_one(number, place) { number - step } else { number + step }
+    if has_one(number, place) {
+        number - step
+    } else {
+        number + step
+    }
 }
 
 // Writes the number turned at each of the last places where it has a 1, or has none, and answers the index after them.
-pub(super) fn write_each_turned(number: u64, places: u32, one: bool, out: &mut [u64], at: usize) -> usize
+pub(super) fn write_each_turned(
+    number: u64,
+    places: u32,
+    one: bool,
+    out: &mut [u64],
+    at: usize,
+) -> usize
     requires places_within { ⌜ places ≤ 32 ⌝ }
     requires number_within { ⌜ number < 2 ^ 32 ⌝ }
     requires room { ⌜ at + length (each-turned one places number) ≤ length (now out) ⌝ }

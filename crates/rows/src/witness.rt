@@ -23,7 +23,12 @@ const MOST_NUMBERS: usize = 62;
 // Writes as many numbers of the range as it has rows at the start of memory, and answers how many they are. No row that
 // keeps to the range takes two of them, so no list of rows for the range is shorter than they are many. Which numbers
 // they are is left free. Refused as the rows of the range are.
-pub fn witness_of_range(width: Width, first: u64, last: u64, memory: &mut [u64]) -> Result<usize, Refusal>
+pub fn witness_of_range(
+    width: Width,
+    first: u64,
+    last: u64,
+    memory: &mut [u64],
+) -> Result<usize, Refusal>
     ensures answer { λ r. ⌜ r ≡ range-answer (places-of width) first last (length (now (memory .entry))) ⌝ }
     ensures numbers_left_free { λ r. ⌜ made r (λ k. (numbers : List ℕ) × (length numbers ≡ k) × (now (memory .exit) ≡ numbers ++ drop k (now (memory .entry)))) ⌝ }
     ensures untouched_when_refused { λ r. ⌜ (isErr r ≡ true → now (memory .exit) ≡ now (memory .entry)) ⌝ }

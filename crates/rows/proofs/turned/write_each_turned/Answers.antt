@@ -1,6 +1,6 @@
-use mathlib.Core.Path.{_≡_, refl, sym, ap, _∙_}
+use mathlib.Core.Path.{_≡_, sym, ap, _∙_}
 use mathlib.Core.List.{_∷_}
-use Prim.Native.Nat.{ℕ, _+_, _-_, _<_}
+use Prim.Native.Nat.{ℕ, _-_, _<_}
 use native.Mathlib.Omega.{arith}
 use lib.ListN.{length}
 use Rattle.covers.specs.WitnessNumbers.{each-turned}
@@ -27,8 +27,7 @@ loop-place-again-then-has-one-one c =
     let i = L .inv .1 in
     let room = c .pre .room in
     let same = L .kept .out in
-    let low : L .next < length (L .out) = omega arith in
-    (
+    let low : L .next < length (L .out) = omega arith in (
       sym (written-first (L .out) (L .next) (c .with-digit-turned .result) rest low) ∙
           ap (written (L .out) (L .next)) (ap (λ (w : ℕ). w ∷ rest) (c .with-digit-turned .ensures .value) ∙ sym step) ∙ L .inv .0,
       omega arith,

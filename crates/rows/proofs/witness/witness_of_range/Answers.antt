@@ -1,14 +1,12 @@
 use borrow.Author.Needs.{needs}
 use mathlib.Core.Path.{_≡_, refl, sym, ap, ap₂, subst, _∙_}
-use mathlib.Core.List.{List, [], _++_}
+use mathlib.Core.List.{List, _++_}
 use Prim.Native.Nat.{ℕ, _+_, _-_, _^_, _≤_, _<_}
 use native.Mathlib.Nat.{sub-zero}
 use native.Mathlib.Omega.{arith}
-use lib.Dec.{ltb, leb}
 use lib.ListN.{length, take, drop}
 use Rattle.std.proofs.shelf.Lists.{take-at}
 use Rattle.std.proofs.shelf.Tests.{lt-ltb, le-leb, lt-leb, both-ways}
-use Rattle.std.specs.declared.result.Result.{Result}
 use Rattle.std.specs.declared.result.Result.the-variants.{Ok, Err}
 use Rattle.covers.specs.Rivals.{in-range, Witness}
 use Rattle.covers.specs.Rules.{rows-of-range}
@@ -16,7 +14,6 @@ use Rattle.covers.specs.WitnessNumbers.{numbers-of-range}
 use Rattle.covers.proofs.RangeLists.{range-few, most-few}
 use Rattle.covers.proofs.WitnessCounts.{range-counted}
 use Rattle.covers.proofs.WitnessSound.{numbers-witness}
-use Rattle.rows.specs.declared.refusal.Refusal.{Refusal}
 use Rattle.rows.specs.declared.refusal.Refusal.the-variants.{MemoryTooShort}
 use Rattle.rows.specs.Building.{written}
 use Rattle.rows.specs.RangeRows.{range-answer}
@@ -82,7 +79,7 @@ returns c =
     let numbers = numbers-of-range n f l in
     let part = ap (take (k - 0)) (c .write-numbers-count .ensures .numbers) ∙ start numbers _ k e in
     let all : c .copy-to-start .last .memory ≡ numbers ++ drop k (c .args .memory .now) =
-        c .copy-to-start .ensures .copied ∙ ap₂ (λ (x : List ℕ) (j : ℕ). x ++ drop j (c .args .memory .now)) part (ap length part ∙ sym e) in
+    c .copy-to-start .ensures .copied ∙ ap₂ (λ (x : List ℕ) (j : ℕ). x ++ drop j (c .args .memory .now)) part (ap length part ∙ sym e) in
     let back : take k (c .copy-to-start .last .memory) ≡ numbers = ap (take k) all ∙ take-at numbers (drop k (c .args .memory .now)) k (sym e) in
     let W = subst (Witness n (in-range f l)) (sym back) (numbers-witness n f l hf hl) in
     record {

@@ -1,11 +1,9 @@
 use mathlib.Core.Path.{_≡_, refl, sym, ap, _∙_}
-use mathlib.Core.List.{[], _∷_}
-use Prim.Native.Nat.{ℕ, _+_, _-_, _%_, _^_, _≤_, _<_}
+use Prim.Native.Nat.{_+_, _-_, _<_}
 use native.Mathlib.Nat.{mod-lt}
 use native.Mathlib.Omega.{arith}
 use lib.ListN.{length}
 use lib.Pow.{pow-pos, pow-mono}
-use Rattle.covers.specs.WitnessNumbers.{numbers-of-range}
 use Rattle.covers.proofs.RangeLists.{range-few, most-few}
 use Rattle.covers.proofs.WitnessCounts.{range-counted}
 use Rattle.rows.specs.Building.{written}
