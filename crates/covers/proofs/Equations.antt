@@ -13,7 +13,7 @@ use Rattle.covers.specs.Rules.{swap, dashes, below, upto, onward, insert, wide
 use Rattle.covers.specs.RuleEquations.{plain, Rule-equations}
 use Rattle.covers.proofs.Witnesses.{Same, same-sym}
 use Rattle.covers.proofs.Order.{same-next, same-mirror, ones-mirror}
-use Rattle.covers.proofs.Overlaps.{across-middle, across-zeros, across-ones}
+use Rattle.covers.proofs.AcrossRules.{across-middle, across-zeros, across-ones}
 use Rattle.covers.proofs.Ends.{below-zeros}
 use Rattle.covers.proofs.Numbers.{value-digits, of-value, value-fits, same-digits, digits-0, digits-1, length-digits, le-digits, lt-digits, next-value, previous-value, ones-value, mirror-value}
 
@@ -73,7 +73,7 @@ next-digits m b h =
     let j : b < 2 ^ m = omega arith in
     sym (of-value m b (next (digits m b)) (same-next (digits m b))) ∙ ap (digits m) (next-value (digits m b) (ones-of-less m b h) ∙ ap (λ n. n + 1) (value-digits m b j))
 
-mirror-digits : (m a : ℕ) → a < 2 ^ m → mirror (digits m a) ≡ digits m (2 ^ m - 1 - a)
+pub mirror-digits : (m a : ℕ) → a < 2 ^ m → mirror (digits m a) ≡ digits m (2 ^ m - 1 - a)
 mirror-digits m a h =
     let k = mirror-value (digits m a) in
     let j = value-digits m a h in

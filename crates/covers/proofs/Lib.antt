@@ -5,8 +5,7 @@ pub mod LowerBound
 pub mod Taken
 pub mod StraightLists
 pub mod Ends
-pub mod Overlaps
-pub mod StraightWitnesses
+pub mod AcrossRules
 pub mod RoundLists
 pub mod SeveralRuns
 pub mod Numbers
@@ -15,7 +14,12 @@ pub mod Narrowest
 pub mod Exactness
 pub mod Shortness
 pub mod RowWords
+pub mod NarrowestWords
 pub mod RowLengths
 pub mod RowCounts
 pub mod Masks
 pub mod RangeLists
+pub mod Turned
+pub mod Partings
+pub mod WitnessSound
+pub mod WitnessCounts

@@ -54,7 +54,7 @@ length-digits zero n = refl
 length-digits (suc m) n = ap suc (length-digits m n)
 
 -- the digit at place p, and the last p digits, of a remainder
-digit-low : (p j n : ℕ) → digit p (n % 2 ^ (suc j + p)) ≡ digit p n
+pub digit-low : (p j n : ℕ) → digit p (n % 2 ^ (suc j + p)) ≡ digit p n
 digit-low p j n = ap (λ k. eqb (k % 2) 1) (field-of n (suc j) p) ∙ ap (λ k. eqb k 1) (rw (sym (add-one j)) (mod-mod-pow (n / 2 ^ p) j 1))
 
 pub digits-low : (p j n : ℕ) → digits p (n % 2 ^ (j + p)) ≡ digits p n

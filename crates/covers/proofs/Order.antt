@@ -89,33 +89,8 @@ next-leq (x ∷ b) (y ∷ u) o s = go x y o (all-ones b) refl (λ k. next-leq b 
     go true false o false e ih = rw e
     go true true o false e ih = rw e (ih e)
 
-pub leq-total : (u v : Digits) → Same u v → leq u v ≡ false → leq v u ≡ true
-leq-total [] [] s h = refl
-leq-total [] (y ∷ v) s h = absurd s
-leq-total (x ∷ u) [] s h = refl
-leq-total (false ∷ u) (false ∷ v) s h = leq-total u v s h
-leq-total (false ∷ u) (true ∷ v) s h = absurd (true≢false h)
-leq-total (true ∷ u) (false ∷ v) s h = refl
-leq-total (true ∷ u) (true ∷ v) s h = leq-total u v s h
-
-pub next-above : (b : Digits) → all-ones b ≡ false → leq (next b) b ≡ false
-next-above b o = next-leq b b o (same-refl b) ∙ ap not (leq-refl b)
-
 pub same-both : (a u : Digits) → Same a u → Same (mirror a) (mirror u)
 same-both a u s = same-via a (mirror a) (mirror u) (same-mirror a) (same-trans a u (mirror u) s (same-mirror u))
 
 pub same-previous : (a : Digits) → Same a (previous a)
 same-previous a = same-trans a (mirror a) (previous a) (same-mirror a) (same-trans (mirror a) (next (mirror a)) (previous a) (same-next (mirror a)) (same-mirror (next (mirror a))))
-
-pub previous-below : (a : Digits) → all-zeros a ≡ false → leq a (previous a) ≡ false
-previous-below a z =
-    let o : all-ones (mirror a) ≡ false = ones-mirror a ∙ z in
-    ap (λ t. leq t (previous a)) (sym (mirror-mirror a)) ∙ leq-mirror (mirror a) (next (mirror a)) (same-next (mirror a)) ∙ next-above (mirror a) o
-
--- what is below a is not above the number one lower
-pub previous-leq : (a u : Digits) → all-zeros a ≡ false → Same a u → leq a u ≡ false → leq u (previous a) ≡ true
-previous-leq a u z s h =
-    let o : all-ones (mirror a) ≡ false = ones-mirror a ∙ z in
-    ap (λ t. leq t (previous a)) (sym (mirror-mirror u)) ∙
-    leq-mirror (mirror u) (next (mirror a)) (same-trans (mirror u) (mirror a) (next (mirror a)) (same-sym (mirror a) (mirror u) (same-both a u s)) (same-next (mirror a))) ∙
-    next-leq (mirror a) (mirror u) o (same-both a u s) ∙ ap not (leq-mirror u a (same-sym a u s) ∙ h)

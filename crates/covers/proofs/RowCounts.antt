@@ -2,21 +2,24 @@
 use mathlib.Core.Path.{_≡_, refl, sym, ap, _∙_}
 use mathlib.Core.Bool.{Bool, true, false}
 use mathlib.Core.List.{List, [], _∷_, map}
+use mathlib.Core.Logic.{inl, inr}
 use Prim.Native.Nat.{ℕ, zero, suc, _+_, _-_, _*_, _^_, _≤_, _<_}
 use native.Mathlib.Omega.{arith}
 use lib.Count.{ones, ones-cat, ones-le, ones-ones}
 use lib.Dec.{leb}
 use lib.ListN.{length}
+use lib.Pow.{pow-pos}
 use Rattle.std.proofs.shelf.Lists.{length-map}
-use Rattle.std.proofs.shelf.Tests.{leb-true, leb-false, lt-leb, le-leb}
+use Rattle.std.proofs.shelf.Tests.{cases-lt, leb-true, leb-false, lt-leb, le-leb}
 use Rattle.covers.specs.declared.symbol.Symbol.the-variants.{Zero, One, Dash}
 use Rattle.covers.specs.Digits.{Digits, digit, digits, all-ones, next, mirror}
-use Rattle.covers.specs.Rules.{below, upto, onward, across, straight, swap-first, round, straight-rows, round-rows, rows-of-run, most-rows}
+use Rattle.covers.specs.Rules.{swap, below, upto, onward, across, straight, swap-first, round, straight-rows, round-rows, rows-of-run, most-rows}
 use Rattle.covers.specs.Theorems.{Lists-few}
 use Rattle.covers.proofs.Witnesses.{Same}
 use Rattle.covers.proofs.Order.{same-next, same-mirror}
 use Rattle.covers.proofs.Ends.{onward-count}
 use Rattle.covers.proofs.SeveralRuns.{split-bound}
+use Rattle.covers.proofs.Equations.{equations-hold}
 use Rattle.covers.proofs.Numbers.{same-length, same-digits, length-digits, digits-0, digits-1}
 
 below-few : (c : Digits) → length (below c) ≤ length c
@@ -142,3 +145,35 @@ below-ones (suc m) c h = go (leb (2 ^ m) c) refl (λ d hd. below-ones m d hd)
     go false e ih =
         let l = leb-false (2 ^ m) c e in
         rw (digits-0 m c l) (length-map (below (digits m c)) (λ r. Zero ∷ r) ∙ ih c l)
+
+-- a first 1 is one more
+pub ones-more : (m x : ℕ) → x < 2 ^ m → ones (2 ^ m + x) ≡ suc (ones x)
+ones-more m x h =
+    let e : 2 ^ m + x ≡ 1 * 2 ^ m + x = omega arith in
+    let one = ones-ones 1 in
+    let step = ones-cat m 1 x h in
+    ap ones e ∙ omega arith
+
+-- how many rows the lowest numbers have, and the highest
+pub lowest-ones : (m b : ℕ) → b < 2 ^ m → length (straight-rows m 0 b) ≡ ones (b + 1)
+lowest-ones m b h = elim (cases-lt (b + 1) (2 ^ m)) [
+  | inl l ↦ ap length (equations-hold .from-zero m b l) ∙ below-ones m (b + 1) l
+  | inr l ↦
+      let top : b ≡ 2 ^ m - 1 = omega arith in
+      let e : 2 ^ m + 0 ≡ b + 1 = omega arith in
+      let k = ones-more m 0 (pow-pos m) in
+      let none = ones-ones 0 in
+      let count = ap ones e in
+      ap (λ j. length (straight-rows m 0 j)) top ∙ ap length (equations-hold .whole m) ∙ omega arith
+]
+
+pub highest-ones : (m a : ℕ) → a < 2 ^ m → length (straight-rows m a (2 ^ m - 1)) ≡ ones (2 ^ m - a)
+highest-ones m a h = elim (cases-lt 0 a) [
+  | inl p ↦
+      let e : 2 ^ m - 1 - a + 1 ≡ 2 ^ m - a = omega arith in
+      ap length (equations-hold .to-highest m a p h) ∙ length-map (straight-rows m 0 (2 ^ m - 1 - a)) (map swap) ∙ lowest-ones m (2 ^ m - 1 - a) (omega arith) ∙ ap ones e
+  | inr p ↦
+      let z : a ≡ 0 = omega arith in
+      let e : 2 ^ m - 1 + 1 ≡ 2 ^ m - a = omega arith in
+      ap (λ j. length (straight-rows m j (2 ^ m - 1))) z ∙ lowest-ones m (2 ^ m - 1) (omega arith) ∙ ap ones e
+]

@@ -17,7 +17,7 @@ use Rattle.covers.proofs.Order.{ones-mirror}
 use Rattle.covers.proofs.Taken.{not-not, and-true}
 use Rattle.covers.proofs.LowerBound.{at-least}
 use Rattle.covers.proofs.Ends.{upto-end, onward-end, upto-0, upto-1, upto-one, onward-0, onward-1, onward-one}
-use Rattle.covers.proofs.Overlaps.{across-middle, across-zeros, across-ones}
+use Rattle.covers.proofs.AcrossRules.{across-middle, across-zeros, across-ones}
 use Rattle.covers.proofs.RoundLists.{not-ones, not-zeros}
 
 -- the list of 0a to 1b is at most as long as those of both ends together

@@ -1,6 +1,6 @@
 -- No list that takes just the numbers of a run is shorter than ours; and the same, up to a factor, for several runs.
 use mathlib.Core.Path.{_≡_, refl, sym, ap, subst, _∙_}
-use mathlib.Core.Bool.{Bool, true, false, _||_}
+use mathlib.Core.Bool.{Bool, true, false}
 use mathlib.Core.List.{List, [], _∷_, map}
 use mathlib.Core.Logic.{_⊎_, inl, inr}
 use Prim.Native.Nat.{ℕ, suc, _+_, _*_, _^_, _≤_, _<_}
@@ -10,24 +10,26 @@ use lib.Dec.{leb}
 use lib.ListN.{length}
 use Rattle.std.specs.shelf.Lists.{All}
 use Rattle.std.proofs.shelf.Lists.{length-map, length-append}
-use Rattle.std.proofs.shelf.Tests.{both-ways, or-left, or-right, leb-true, leb-false}
-use Rattle.covers.specs.Digits.{Digits, digits, value, leq, all-ones, all-zeros, next}
+use Rattle.std.proofs.shelf.Tests.{or-left, or-right, leb-true, leb-false}
+use Rattle.covers.specs.Digits.{Digits, digits, value, all-ones, all-zeros, next}
 use Rattle.covers.specs.Symbols.{Symbols, takes, list-takes}
-use Rattle.covers.specs.Rules.{straight-rows, round-rows, rows-of-run, rows-of-runs}
-use Rattle.covers.specs.Rivals.{NumberSet, in-range, in-ranges, Takes-precisely, Rival, Shortest, Within, narrowest, Parted, Witness}
+use Rattle.covers.specs.Rules.{rows-of-run, rows-of-runs}
+use Rattle.covers.specs.Rivals.{in-range, in-ranges, Rival, Shortest, Within}
+use Rattle.covers.specs.WitnessNumbers.{numbers-of-range}
 use Rattle.covers.specs.Theorems.{Run, Lower-bound, Lists-witnessed, Lists-shortest, Untouched}
 use Rattle.covers.proofs.Lists.{all-mono, all-both, all-map, pairs-map}
-use Rattle.covers.proofs.Witnesses.{Same, previous, within, outer, Exact, Mix, Clash, Witness-of, same-trans, mix-same}
+use Rattle.covers.proofs.Witnesses.{Same, previous, Exact, Clash, same-trans}
 use Rattle.covers.proofs.Order.{same-next, same-previous}
 use Rattle.covers.proofs.Taken.{taken-append}
 use Rattle.covers.proofs.LowerBound.{at-least}
 use Rattle.covers.proofs.StraightLists.{straight-exact}
-use Rattle.covers.proofs.StraightWitnesses.{witness-straight}
-use Rattle.covers.proofs.RoundLists.{round-exact, witness-round, not-ones}
+use Rattle.covers.proofs.RoundLists.{round-exact}
 use Rattle.covers.proofs.SeveralRuns.{straight-bound, round-bound}
 use Rattle.covers.proofs.Numbers.{value-digits, of-value, value-fits, same-digits, le-digits, lt-digits, next-value, previous-value}
-use Rattle.covers.proofs.Narrowest.{narrowest-takes, takes-narrowest}
+use Rattle.covers.proofs.Narrowest.{takes-narrowest}
 use Rattle.covers.proofs.Exactness.{run-exact, runs-exact}
+use Rattle.covers.proofs.WitnessSound.{numbers-witness}
+use Rattle.covers.proofs.WitnessCounts.{range-proper, range-counted}
 
 pub lower-bound : Lower-bound
 lower-bound n S numbers rows W just =
@@ -40,57 +42,12 @@ lower-bound n S numbers rows W just =
       count = length-map numbers (digits n);
     })
 
--- a witness in digits is one in numbers
-in-numbers : (n m : ℕ) (S : NumberSet) (D : Digits → Bool) (rows : List Symbols) → Exact (digits n m) D rows → Takes-precisely n rows S → {k : ℕ} → Witness-of (digits n m) D k →
-    (numbers : List ℕ) × (length numbers ≡ k) × Witness n S numbers
-in-numbers n m S D rows ex just W = (
-  map value (W .these),
-  length-map (W .these) value ∙ W .count,
-  record {
-    members = all-map value (λ x. (x < 2 ^ n) × (S x ≡ true)) (λ u p. (value-fits n m u (p .0), as-set u (p .0) ∙ p .1)) (W .these) (W .each);
-    parted = pairs-map value (Parted n S)
-        (λ u v p q (c : Clash D u v).
-        let s = mix-same (digits n m) u v (c .0) (p .0) (c .1) in (
-          value (c .0),
-          value-fits n m (c .0) s,
-          rw (of-value n m u (p .0), of-value n m v (q .0), of-value n m (c .0) s) (narrowest-takes u v (c .0) (c .1)),
-          as-set (c .0) s ∙ c .2,
-        ))
-        (W .these) (W .each) (W .apart);
-  },
-)
-  where
-    as-set : (u : Digits) → Same (digits n m) u → S (value u) ≡ D u
-    as-set u s = sym (just (value u) (value-fits n m u s)) ∙ ap (list-takes rows) (of-value n m u s) ∙ ex u s
-
-far-digits : (n f l : ℕ) → f < 2 ^ n → l + 1 < f → leq (digits n f) (next (digits n l)) ≡ false
-far-digits n f l hf h =
-    let hl : l < 2 ^ n = omega arith in
-    let s = same-trans (digits n f) (digits n l) (next (digits n l)) (same-digits n f l) (same-next (digits n l)) in
-    let e = of-value n f (next (digits n l)) s in
-    let v = next-value (digits n l) (not-ones (digits n f) (digits n l) (same-digits n f l) (lt-digits n f l hf hl (omega arith))) in
-    let w = value-digits n l hl in
-    let fits = value-fits n f (next (digits n l)) s in
-    subst (λ u. leq (digits n f) u ≡ false) e (lt-digits n f (value (next (digits n l))) hf fits (omega arith))
-
 pub witnessed : Lists-witnessed
-witnessed n f l r = go (leb f l) refl (run-exact n f l r)
-  where
-    go : (t : Bool) → leb f l ≡ t → Takes-precisely n (rows-of-run n f l) (in-range f l) →
-        (numbers : List ℕ) × (length numbers ≡ length (rows-of-run n f l)) × Witness n (in-range f l) numbers
-    go true e just =
-        let o = le-digits n f l (r .first-fits) (r .last-fits) (leb-true f l e) in
-        let s = same-digits n f l in
-        in-numbers n f (in-range f l) (within (digits n f) (digits n l)) (rows-of-run n f l)
-        (rw e (straight-exact (digits n f) (digits n l) s o)) just (rw e (witness-straight (digits n f) (digits n l) s o))
-    go false e just =
-        let k = leb-false f l e in
-        let no = r .proper in
-        let far : l + 1 < f = omega arith in
-        let o = lt-digits n f l (r .first-fits) (r .last-fits) k in
-        let s = same-digits n f l in
-        in-numbers n f (in-range f l) (outer (digits n f) (digits n l)) (rows-of-run n f l)
-        (rw e (round-exact (digits n f) (digits n l) s o)) just (rw e (witness-round (digits n f) (digits n l) s o (far-digits n f l (r .first-fits) far)))
+witnessed n f l r = (
+  numbers-of-range n f l,
+  range-counted n f l (r .first-fits) (r .last-fits) ∙ ap length (range-proper n f l (r .proper)),
+  numbers-witness n f l (r .first-fits) (r .last-fits),
+)
 
 pub shortest : Lists-shortest
 shortest n f l r other R =

@@ -1,16 +1,16 @@
 -- The words of the proofs: numbers of as many digits, mixes, clashes, witnesses.
-use mathlib.Core.Path.{_≡_, refl, ap, ap₂, _∙_}
+use mathlib.Core.Path.{_≡_, refl, ap, _∙_}
 use mathlib.Core.Bool.{Bool, true, false, _&&_, _||_}
-use mathlib.Core.List.{List, [], _∷_, _++_, map}
+use mathlib.Core.List.{List, [], _∷_, map}
 use mathlib.Core.Logic.{_⊎_, inl, inr}
-use Prim.Native.Nat.{ℕ, suc, _+_}
+use Prim.Native.Nat.{ℕ, suc}
 use lib.ListN.{length}
 use Rattle.std.specs.shelf.Lists.{All}
-use Rattle.std.proofs.shelf.Lists.{length-map, length-append}
+use Rattle.std.proofs.shelf.Lists.{length-map}
 use Rattle.covers.specs.Digits.{Digits, leq, next, mirror}
 use Rattle.covers.specs.Symbols.{Symbols, list-takes}
 use Rattle.covers.specs.Rivals.{Pairs}
-use Rattle.covers.proofs.Lists.{all-map, all-join, pairs-map, pairs-join}
+use Rattle.covers.proofs.Lists.{all-map, pairs-map}
 
 -- as many digits
 abbrev pub Same : Digits → Digits → Type 0
@@ -134,24 +134,6 @@ witness-more W f {n′} {P′} {R′} g h p s q c =
       each = ((s, q), V .each);
       apart = (all-map f (R′ p) (λ w x. c w (x .0) (x .1)) (W .these) (W .each), V .apart);
       count = ap suc (V .count);
-    }
-
--- two witnesses together
-pub witness-join : {n : Digits} {P : Digits → Type 0} {R : Digits → Digits → Type 0} {k : ℕ} → Witness n P R k →
-    {m : Digits} {Q : Digits → Type 0} {O : Digits → Digits → Type 0} {j : ℕ} → Witness m Q O j →
-    (f g : Digits → Digits) {n′ : Digits} {P′ : Digits → Type 0} {R′ : Digits → Digits → Type 0} →
-    Points n P f n′ P′ → Couples n R f R′ → Points m Q g n′ P′ → Couples m O g R′ →
-    ((v w : Digits) → Same n v → P v → Same m w → Q w → R′ (f v) (g w)) → Witness n′ P′ R′ (k + j)
-unfolding witness-map
-witness-join W V f g {n′} {P′} {R′} pf cf pg cg x =
-    let A : Witness n′ P′ R′ _ = witness-map W f pf cf in
-    let B : Witness n′ P′ R′ _ = witness-map V g pg cg in
-    record {
-      these = A .these ++ B .these;
-      each = all-join (λ w. Same n′ w × P′ w) (A .these) (B .these) (A .each) (B .each);
-      apart = pairs-join R′ (A .these) (B .these) (A .apart) (B .apart)
-          (all-map f (λ v. All (R′ v) (B .these)) (λ v p. all-map g (R′ (f v)) (λ w q. x v w (p .0) (p .1) (q .0) (q .1)) (V .these) (V .each)) (W .these) (W .each));
-      count = length-append (A .these) (B .these) ∙ ap₂ _+_ (A .count) (B .count);
     }
 
 pub witness-count : {n : Digits} {P : Digits → Type 0} {R : Digits → Digits → Type 0} {k : ℕ} → Witness n P R k → {j : ℕ} → k ≡ j → Witness n P R j

@@ -5,4 +5,5 @@ pub mod Rules
 pub mod RuleEquations
 pub mod Examples
 pub mod Rivals
+pub mod WitnessNumbers
 pub mod Theorems

@@ -2,22 +2,20 @@
 use mathlib.Core.Path.{_≡_, refl, sym, ap, ap₂, _∙_}
 use mathlib.Core.Bool.{Bool, true, false, not, cond}
 use mathlib.Core.List.{List, [], _∷_, map}
-use mathlib.Core.Logic.{inl, inr}
-use Prim.Native.Nat.{ℕ, suc, _+_, _-_, _*_, _/_, _%_, _^_, _≤_, _<_}
+use Prim.Native.Nat.{ℕ, suc, _+_, _-_, _/_, _%_, _^_, _≤_, _<_}
 use native.Mathlib.Omega.{arith}
 use lib.Bits.{bitAnd, and-mask}
-use lib.Count.{ones, ones-cat, ones-ones}
+use lib.Count.{ones}
 use lib.ListN.{length}
-use lib.Pow.{pow-pos}
 use Rattle.std.proofs.shelf.Lists.{length-map}
-use Rattle.std.proofs.shelf.Tests.{eq-eqb, ne-eqb, cases-lt}
+use Rattle.std.proofs.shelf.Tests.{eq-eqb, ne-eqb}
 use Rattle.covers.specs.declared.symbol.Symbol.the-variants.{Zero, One, Dash}
 use Rattle.covers.specs.Digits.{Digits, digits, digit}
 use Rattle.covers.specs.Symbols.{Symbols}
 use Rattle.covers.specs.Rules.{swap, dashes, below, straight-rows}
 use Rattle.covers.specs.RuleEquations.{plain}
 use Rattle.covers.proofs.Equations.{plain-digits, swap-dashes, equations-hold}
-use Rattle.covers.proofs.RowCounts.{below-ones}
+use Rattle.covers.proofs.RowCounts.{lowest-ones}
 use Rattle.covers.proofs.Numbers.{length-digits}
 use Rattle.covers.proofs.RowLengths.{Long, long-map, below-long}
 use Rattle.rows.specs.declared.row_words.RowWords.{RowWords}
@@ -120,14 +118,7 @@ end-below m count e p h =
 
 -- as many rows as ones
 pub end-length : (m count : ℕ) (e : Bool) → 1 ≤ count → count ≤ 2 ^ m → length (end-list m count e) ≡ ones count
-end-length m count e p h = elim (cases-lt count (2 ^ m)) [
-  | inl l ↦ ap length (end-below m count e p l) ∙ turned-length e (below (digits m count)) ∙ below-ones m count l
-  | inr l ↦
-      let is : count ≡ 2 ^ m = omega arith in
-      let one : ones (1 * 2 ^ m + 0) ≡ ones 1 + ones 0 = ones-cat m 1 0 (pow-pos m) in
-      let unit = ones-ones 1 in
-      let none = ones-ones 0 in
-      let same : 1 * 2 ^ m + 0 ≡ count = omega arith in
-      let count-ones = ap ones same in
-      ap length (end-whole m count e is) ∙ omega arith
-]
+unfolding end-list
+end-length m count e p h =
+    let k : count - 1 + 1 ≡ count = omega arith in
+    turned-length e (straight-rows m 0 (count - 1)) ∙ lowest-ones m (count - 1) (omega arith) ∙ ap ones k

@@ -4,3 +4,4 @@ pub mod EndLists
 pub mod AcrossLists
 pub mod RunLists
 pub mod Widths
+pub mod BesideLists

@@ -1,5 +1,5 @@
 -- The lists of straight runs and of runs that go round, as words behind a front.
-use mathlib.Core.Path.{_≡_, refl, sym, ap, ap₂, subst, _∙_}
+use mathlib.Core.Path.{_≡_, refl, sym, ap, ap₂, _∙_}
 use mathlib.Core.Bool.{Bool, true, false, not, cond}
 use mathlib.Core.List.{List, [], _∷_, _++_, map}
 use mathlib.Core.Logic.{_⊎_, inl, inr}
@@ -17,7 +17,7 @@ use Rattle.std.specs.declared.result.Result.the-variants.{Ok}
 use Rattle.covers.specs.declared.symbol.Symbol.the-variants.{Zero, One, Dash}
 use Rattle.covers.specs.Symbols.{Symbols}
 use Rattle.covers.specs.Words.{value-word, care-word, symbols}
-use Rattle.covers.specs.Rules.{swap-first, straight-rows, round-rows, rows-of-run, rows-of-range}
+use Rattle.covers.specs.Rules.{swap-first, straight-rows, round-rows, rows-of-range}
 use Rattle.covers.proofs.Equations.{equations-hold}
 use Rattle.covers.proofs.RowWords.{symbols-back, clean-word}
 use Rattle.covers.proofs.RowLengths.{Long, straight-rows-long, round-rows-long}
@@ -242,21 +242,6 @@ pub words-behind : (rows : List Symbols) → map (behind-front blank) rows ≡ m
 words-behind [] = refl
 words-behind (r ∷ rows) =
     ap₂ (λ (w : RowWords) (l : List RowWords). w ∷ l) (same-words (behind-front blank r) (words-of r) (zero-add (value-word r)) (zero-add (care-word r))) (words-behind rows)
-
-pub run-straight : (n f l : ℕ) → f ≤ l → rows-of-run n f l ≡ straight-rows n f l
-run-straight n f l h = rw (le-leb f l h)
-
-pub run-round : (n f l : ℕ) → l < f → rows-of-run n f l ≡ round-rows n f l
-run-round n f l h = rw (lt-leb f l h)
-
--- the run of a range
-pub range-whole : (n f l : ℕ) → f ≡ l + 1 → rows-of-range n f l ≡ rows-of-run n 0 (2 ^ n - 1)
-unfolding rows-of-range
-range-whole n f l e = rw (eq-eqb f (l + 1) e)
-
-pub range-proper : (n f l : ℕ) → (f ≡ l + 1 → ⊥) → rows-of-range n f l ≡ rows-of-run n f l
-unfolding rows-of-range
-range-proper n f l e = rw (ne-eqb f (l + 1) e)
 
 -- rows that stand in memory are read back
 pub rows-read : (n : ℕ) (rows : List Symbols) (rest : List RowWords) (k : ℕ) → Long n rows → k ≡ length rows → rows-in n k (map words-of rows ++ rest) ≡ rows

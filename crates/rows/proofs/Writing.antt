@@ -1,11 +1,11 @@
 -- Lists written into memory one after the other.
-use mathlib.Core.Path.{_≡_, refl, sym, ap, ap₂, _∙_}
+use mathlib.Core.Path.{_≡_, sym, ap, ap₂, _∙_}
 use mathlib.Core.List.{List, [], _∷_, _++_}
 use Prim.Native.Nat.{ℕ, suc, _+_, _≤_, _<_}
 use native.Mathlib.Nat.{add-zero}
 use native.Mathlib.Omega.{arith}
 use lib.ListN.{length, take, drop, set}
-use Rattle.std.proofs.shelf.Lists.{append-assoc, take-append-drop, take-more-set, drop-set-lt, length-set, length-append}
+use Rattle.std.proofs.shelf.Lists.{append-assoc, take-append-drop, take-more-set, drop-set-lt, length-set}
 use Rattle.rows.specs.Building.{written}
 
 module _ {X : Type 0} where

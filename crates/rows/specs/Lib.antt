@@ -3,3 +3,4 @@ pub mod Widths
 pub mod Memory
 pub mod RangeRows
 pub mod Building
+pub mod NarrowestRows

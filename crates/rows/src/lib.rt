@@ -1,7 +1,9 @@
-// Widths, rows, and the rows of a range.
+// Widths, rows, the rows of a range, its witness, and the narrowest row of two numbers.
 mod across;
+mod beside;
 mod ends;
 mod lead;
+pub mod narrowest;
 pub mod range;
 pub mod refusal;
 mod round;
@@ -9,4 +11,6 @@ pub mod row;
 pub mod row_words;
 mod run;
 mod straight;
+mod turned;
 pub mod width;
+pub mod witness;

@@ -33,7 +33,10 @@ fn account(rt: &LibcRuntime, sheet: &[u8]) -> io::Result<()> {
 }
 
 pub(super) fn packed_ranges(rt: &LibcRuntime) -> io::Result<()> {
-    println!(rt, "Sheets: the rows of 3 to 12 at width 4, then damaged ones")?;
+    println!(
+        rt,
+        "Sheets: the rows of 3 to 12 at width 4, then damaged ones"
+    )?;
     let mut sheet = [0u8; 6];
     let size = match sheet_of_range(3, 12, &mut sheet) {
         Ok(size) => size,
@@ -50,7 +53,10 @@ pub(super) fn packed_ranges(rt: &LibcRuntime) -> io::Result<()> {
 }
 
 pub(super) fn unpacked_rows(rt: &LibcRuntime) -> io::Result<()> {
-    println!(rt, "Rows that are not packed: too wide, too many, too little memory")?;
+    println!(
+        rt,
+        "Rows that are not packed: too wide, too many, too little memory"
+    )?;
     let width = match Width::new(4) {
         Ok(width) => width,
         Err(refusal) => return print_refusal(rt, refusal),

@@ -9,7 +9,7 @@ use Rattle.covers.proofs.RangeLists.{range-few, most-few}
 use Rattle.rows.specs.Building.{written}
 use Rattle.rows.specs.Memory.{words-of}
 use Rattle.rows.specs.Widths.{places-of}
-use Rattle.rows.proofs.RunLists.{range-whole, range-proper}
+use Rattle.covers.proofs.WitnessCounts.{range-whole, range-proper}
 use Rattle.rows.proofs.Widths.{places-some, places-most}
 use Rattle.rows.proofs.range.rows_of_its_run.Needs as need
 

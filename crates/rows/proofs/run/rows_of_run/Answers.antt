@@ -6,7 +6,8 @@ use lib.Pow.{pow-mono}
 use mathlib.Core.List.{map}
 use Rattle.rows.specs.Building.{written}
 use Rattle.rows.specs.Memory.{words-of}
-use Rattle.rows.proofs.RunLists.{words-behind, run-straight, run-round}
+use Rattle.covers.proofs.WitnessCounts.{run-straight, run-round}
+use Rattle.rows.proofs.RunLists.{words-behind}
 use Rattle.rows.proofs.run.rows_of_run.Needs as need
 
 pub rows-of-straight-requires : need.rows-of-straight-requires
