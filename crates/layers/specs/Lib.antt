@@ -1,0 +1,9 @@
+pub mod Maps
+pub mod EqualTests
+pub mod Flips
+pub mod FlipLaws
+pub mod Turns
+pub mod TurnLaws
+pub mod Layers
+pub mod LayerLaws
+pub mod Piles
