@@ -1,4 +1,7 @@
-// Tests of the calls on widths, rows and ranges.
+// Tests of the calls on widths, rows, ranges and witnesses.
+#[cfg(test)]
+mod witnesses;
+
 #[cfg(test)]
 mod tests {
     use covers::symbol::Symbol;

@@ -1,7 +1,9 @@
-// A printed account: ranges and their rows, packed sheets, and what is refused.
+// A printed account: ranges and their rows, witnesses, packed sheets, a pile of layers, and what is refused.
+mod piles;
 mod ranges;
 mod sheets;
 mod show;
+mod witnesses;
 
 use std::io;
 
@@ -10,5 +12,7 @@ fn main(rt: LibcRuntime) -> io::Result<()> {
     ranges::wide_ranges(&rt)?;
     ranges::refused_ranges(&rt)?;
     sheets::packed_ranges(&rt)?;
-    sheets::unpacked_rows(&rt)
+    sheets::unpacked_rows(&rt)?;
+    witnesses::rows_and_witnesses(&rt)?;
+    piles::flip_over_turn(&rt)
 }

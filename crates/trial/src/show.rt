@@ -13,6 +13,14 @@ pub(super) fn print_row(rt: &LibcRuntime, width: Width, row: Row) -> io::Result<
     Ok(())
 }
 
+// The binary digits of a number.
+pub(super) fn print_number(rt: &LibcRuntime, width: Width, number: u64) -> io::Result<()> {
+    for place in (0..width.places()).rev() {
+        print!(rt, "{}", (number >> place) & 1)?;
+    }
+    Ok(())
+}
+
 // At most four rows on a line, and how many more there are.
 pub(super) fn print_rows(rt: &LibcRuntime, width: Width, rows: &[RowWords]) -> io::Result<()> {
     for words in rows.iter().take(4) {
