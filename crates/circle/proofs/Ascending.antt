@@ -107,7 +107,7 @@ module _ (p : ℕ → Bool) where
 
 -- what a filter keeps
 module _ (p : ℕ → Bool) where
-  kept-in : (l : List ℕ) (x : ℕ) → In x l → p x ≡ true → In x (kept-by p l)
+  pub kept-in : (l : List ℕ) (x : ℕ) → In x l → p x ≡ true → In x (kept-by p l)
   kept-in [] x i e = absurd i
   kept-in (y ∷ l) x (inl q) e = subst (λ t. In x (cond t (y ∷ kept-by p l) (kept-by p l))) (sym (ap p (sym q) ∙ e)) (inl q)
   kept-in (y ∷ l) x (inr i) e = go (p y) (kept-in l x i e)
@@ -116,7 +116,7 @@ module _ (p : ℕ → Bool) where
       go true j = inr j
       go false j = j
 
-  kept-ascends : (l : List ℕ) → Ascending l → Ascending (kept-by p l)
+  pub kept-ascends : (l : List ℕ) → Ascending l → Ascending (kept-by p l)
   kept-ascends [] a = tt
   kept-ascends (y ∷ l) a = go (p y) (kept-ascends l (a .1))
     where
