@@ -1,8 +1,8 @@
 -- The candidates for the first numbers of runs: the old firsts and one number more.
-use mathlib.Core.Path.{_≡_, refl, sym, ap, _∙_}
+use mathlib.Core.Path.{_≡_, refl, sym}
 use mathlib.Core.Bool.{Bool, true, false, cond}
-use mathlib.Core.List.{List, [], _∷_, _++_, map}
-use mathlib.Core.Logic.{_⊎_, inl, inr}
+use mathlib.Core.List.{List, [], _∷_}
+use mathlib.Core.Logic.{inl, inr}
 use Prim.Native.Nat.{ℕ, suc, _+_, _≤_, _<_}
 use native.Mathlib.Omega.{arith}
 use lib.Dec.{ltb}
@@ -10,10 +10,9 @@ use lib.ListN.{length}
 use Rattle.std.specs.shelf.Lists.{All, Has, kept-by}
 use Rattle.std.proofs.shelf.Elements.{all-kept-by, kept-by-passes}
 use Rattle.std.proofs.shelf.Tests.{ltb-true, lt-ltb, cases-order}
-use Rattle.covers.specs.Rivals.{Pairs}
 use Rattle.covers.proofs.Lists.{all-mono, all-join, pairs-join}
 use Rattle.circle.proofs.Ascending.{In, Ascending, in-join-left, in-join-right, kept-in, kept-ascends}
-use Rattle.run_table.specs.Edits.{below-and-above}
+use Rattle.run_table.specs.NewRuns.{below-and-above}
 
 pub has-from-in : (l : List ℕ) (x : ℕ) → In x l → Has l x
 has-from-in [] x i = absurd i

@@ -1,12 +1,12 @@
 -- Where runs begin and end after an edit.
-use mathlib.Core.Path.{_≡_, refl, sym, ap, ap₂, _∙_}
+use mathlib.Core.Path.{_≡_, refl, sym, ap, _∙_}
 use mathlib.Core.Bool.{Bool, true, false, not, _&&_, _||_, cond}
 use mathlib.Core.List.{List, [], _∷_, map}
 use mathlib.Core.Logic.{_⊎_, inl, inr}
-use Prim.Native.Nat.{ℕ, _+_, _-_, _^_, _≤_, _<_}
+use Prim.Native.Nat.{ℕ, _-_, _^_, _<_}
 use lib.Dec.{ltb}
 use native.Mathlib.Omega.{arith}
-use Rattle.std.proofs.shelf.Tests.{both-ways, ltb-true, cases-bool, cases-lt, and-parts, and-cases, or-cases, or-parts, or-right, and-right, not-true, not-false, not-from-true}
+use Rattle.std.proofs.shelf.Tests.{both-ways, ltb-true, cases-lt, and-parts, and-cases, or-cases, or-parts, not-true, not-false}
 use Rattle.covers.specs.Rivals.{NumberSet, in-range}
 use Rattle.circle.specs.Runs.{before, after, begins, ends, passing, whole, last-from, runs}
 use Rattle.circle.proofs.Ascending.{In, passing-has, whole-true}
@@ -14,7 +14,8 @@ use Rattle.circle.proofs.Circle.{before-fits, after-fits, before-cases, after-c
 use Rattle.circle.proofs.Stretches.{begins-in, begins-out, begins-from, ends-in, ends-out, ends-from, only-last, begin-of}
 use Rattle.run_table.specs.declared.edit.Edit.{Edit}
 use Rattle.run_table.specs.declared.edit.Edit.the-variants.{Add, Drop}
-use Rattle.run_table.specs.Edits.{edited, edit-in-width, first-candidate, last-candidate}
+use Rattle.run_table.specs.Edits.{edited, edit-in-width}
+use Rattle.run_table.specs.NewRuns.{first-candidate, last-candidate}
 
 pub ends-fit : (n f l : ℕ) → (ltb f (2 ^ n) && ltb l (2 ^ n)) ≡ true → (f < 2 ^ n) × (l < 2 ^ n)
 ends-fit n f l w = let p = and-parts (ltb f (2 ^ n)) (ltb l (2 ^ n)) w in (ltb-true f (2 ^ n) (p .0), ltb-true l (2 ^ n) (p .1))

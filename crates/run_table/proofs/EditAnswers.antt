@@ -1,7 +1,7 @@
 -- What an edit of a table answers.
 use mathlib.Core.Path.{_≡_, refl, sym, ap, _∙_}
 use mathlib.Core.Bool.{true}
-use mathlib.Core.List.{List, [], _∷_, map}
+use mathlib.Core.List.{List, [], _∷_}
 use Prim.Native.Nat.{ℕ, _-_, _^_, _≤_, _<_}
 use native.Mathlib.Omega.{arith}
 use lib.ListN.{length, take}
@@ -14,7 +14,8 @@ use Rattle.run_table.specs.declared.run.Run.{Run}
 use Rattle.run_table.specs.declared.edit.Edit.{Edit}
 use Rattle.run_table.specs.declared.table.RunTable.{RunTable}
 use Rattle.run_table.specs.Tables.{ranges-of, standing, table-runs}
-use Rattle.run_table.specs.Edits.{adding, edit-in-width, edited, new-runs}
+use Rattle.run_table.specs.Edits.{edit-in-width, edited}
+use Rattle.run_table.specs.NewRuns.{adding, new-runs}
 use Rattle.run_table.specs.Answers.{Edit-answered}
 use Rattle.run_table.proofs.EditedRuns.{whole-after, runs-after}
 use Rattle.run_table.proofs.Tables.{table-few}

@@ -1,15 +1,14 @@
 -- The runs that are computed for an edit are the runs of the set after it.
 use mathlib.Core.Path.{_≡_, refl, sym, ap, ap₂, subst, _∙_}
-use mathlib.Core.Bool.{Bool, true, false, not, cond}
+use mathlib.Core.Bool.{true, false, not}
 use mathlib.Core.List.{List, [], _∷_, map}
-use mathlib.Core.Logic.{_⊎_, inl, inr}
+use mathlib.Core.Logic.{inl, inr}
 use Prim.Native.Nat.{ℕ, _+_, _-_, _%_, _^_, _≤_, _<_}
 use native.Mathlib.Omega.{arith}
-use lib.ListN.{length}
-use Rattle.std.specs.shelf.Lists.{All, Has, kept-by}
+use Rattle.std.specs.shelf.Lists.{All, kept-by}
 use Rattle.std.proofs.shelf.Elements.{all-kept-by, kept-by-passes}
-use Rattle.std.proofs.shelf.Tests.{both-ways, true≢false, cases-bool, and-right, or-right, not-from-true}
-use Rattle.covers.specs.Rivals.{NumberSet, Pairs, in-range, in-ranges}
+use Rattle.std.proofs.shelf.Tests.{true≢false, cases-bool, and-right, or-right, not-from-true}
+use Rattle.covers.specs.Rivals.{NumberSet, in-range, in-ranges}
 use Rattle.covers.specs.Theorems.{Run as Proper-run}
 use Rattle.covers.proofs.Lists.{all-both, all-map, pairs-map}
 use Rattle.circle.specs.Runs.{before, begins, ends, last-from, runs}
@@ -21,7 +20,8 @@ use Rattle.run_table.specs.declared.run.Run.{Run}
 use Rattle.run_table.specs.declared.edit.Edit.{Edit}
 use Rattle.run_table.specs.declared.edit.Edit.the-variants.{Add, Drop}
 use Rattle.run_table.specs.Tables.{ranges-of}
-use Rattle.run_table.specs.Edits.{adding, below-and-above, edit-in-width, edited, first-candidate, firsts-of, last-candidate, lasts-of, new-lasts, new-runs, run-from, set-after, steps-to-end}
+use Rattle.run_table.specs.Edits.{edit-in-width, edited}
+use Rattle.run_table.specs.NewRuns.{adding, below-and-above, first-candidate, firsts-of, lasts-of, new-lasts, new-runs, run-from, set-after, steps-to-end}
 use Rattle.run_table.proofs.Edges.{ends-fit, first-inside, begin-listed, end-listed, new-begin, new-end, first-candidate-fits, last-candidate-fits, edited-same}
 use Rattle.run_table.proofs.Candidates.{has-from-in, candidates-ascend, candidates-below, new-in, old-in}
 use Rattle.run_table.proofs.Nearest.{nearest-end}

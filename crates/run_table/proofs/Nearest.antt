@@ -11,9 +11,9 @@ use Rattle.covers.specs.Rivals.{NumberSet}
 use Rattle.circle.specs.Runs.{begins, ends, last-from}
 use Rattle.circle.specs.Theorems.{Stretch}
 use Rattle.circle.proofs.Ascending.{In, all-in}
-use Rattle.circle.proofs.Circle.{ahead, ahead-fits, ahead-same}
+use Rattle.circle.proofs.Circle.{ahead, ahead-fits}
 use Rattle.circle.proofs.Stretches.{ends-out, last-of-begin, no-end-before}
-use Rattle.run_table.specs.Edits.{least-of, steps, steps-to-end}
+use Rattle.run_table.specs.NewRuns.{least-of, steps, steps-to-end}
 use Rattle.run_table.proofs.Steps.{steps-ahead, ahead-there}
 
 module _ (p : ℕ → Bool) (d : ℕ → ℕ) where

@@ -1,5 +1,5 @@
 -- Steps on the circle, computed on words.
-use mathlib.Core.Path.{_≡_, sym, ap, _∙_}
+use mathlib.Core.Path.{_≡_, ap, _∙_}
 use mathlib.Core.Logic.{inl, inr}
 use Prim.Native.Nat.{ℕ, _+_, _-_, _*_, _%_, _^_, _≤_, _<_}
 use native.Mathlib.Nat.{mod-eq-of-lt, add-mod-right, add-mul}
@@ -7,7 +7,7 @@ use native.Mathlib.Omega.{arith}
 use lib.Arith.{digits-mod}
 use lib.Pow.{pow-pos, pow-add, mod-mod-pow}
 use Rattle.circle.proofs.Circle.{ahead, ahead-cases, ahead-fits}
-use Rattle.run_table.specs.Edits.{steps}
+use Rattle.run_table.specs.NewRuns.{steps}
 
 -- a word's turn is whole turns of the circle
 turns : (n : ℕ) → n ≤ 64 → 2 ^ 64 ≡ 2 ^ (64 - n) * 2 ^ n

@@ -1,18 +1,18 @@
 -- The rows of a table's runs.
 use mathlib.Core.Path.{_≡_, refl, sym, ap, ap₂, _∙_}
 use mathlib.Core.Bool.{Bool, true, false, cond, _&&_}
-use mathlib.Core.List.{List, [], _∷_, _++_, map}
+use mathlib.Core.List.{List, [], _∷_, _++_}
 use Prim.Native.Nat.{ℕ, zero, suc, _+_, _-_, _^_, _≤_, _<_}
 use native.Mathlib.Omega.{arith}
 use borrow.Rule.Slice.PartMut.{putMid}
-use lib.Dec.{ltb, leb}
+use lib.Dec.{leb}
 use lib.ListN.{length, take, drop, getD}
 use Rattle.std.specs.declared.result.Result.{Result}
 use Rattle.std.specs.declared.result.Result.the-variants.{Ok, Err}
-use Rattle.std.specs.shelf.Lists.{All, joined}
-use Rattle.std.proofs.shelf.Lists.{length-append, take-more, map-push, map-append, joined-more, append-nil, drop-all, drop-drop, length-drop, take-all, take-rest, length-map}
+use Rattle.std.specs.shelf.Lists.{All}
+use Rattle.std.proofs.shelf.Lists.{length-append, take-more, map-push, joined-more, append-nil, drop-all, drop-drop, length-drop, take-all, take-rest}
 use Rattle.std.proofs.shelf.Parts.{putMid-paste}
-use Rattle.std.proofs.shelf.Tests.{lt-ltb, le-leb, both-ways, true≢false, cond-true}
+use Rattle.std.proofs.shelf.Tests.{lt-ltb, le-leb, both-ways}
 use Rattle.covers.specs.Rivals.{NumberSet}
 use Rattle.covers.specs.Symbols.{Symbols}
 use Rattle.covers.specs.Rules.{rows-of-run, rows-of-runs, rows-of-range}

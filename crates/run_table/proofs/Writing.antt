@@ -1,5 +1,5 @@
 -- Runs written one after the other for a list of candidates.
-use mathlib.Core.Path.{_≡_, refl, sym, ap, ap₂, subst, _∙_}
+use mathlib.Core.Path.{_≡_, sym, ap, ap₂, subst, _∙_}
 use mathlib.Core.Bool.{Bool, true, false, cond}
 use mathlib.Core.List.{List, [], _∷_, _++_, map}
 use Prim.Native.Nat.{ℕ, suc, _+_, min, _≤_, _<_}
@@ -12,7 +12,7 @@ use Rattle.std.proofs.shelf.Lists.{append-nil, append-assoc, length-append, len
 use Rattle.circle.specs.Runs.{begins}
 use Rattle.run_table.specs.declared.run.Run.{Run}
 use Rattle.run_table.specs.declared.edit.Edit.{Edit}
-use Rattle.run_table.specs.Edits.{below-and-above, firsts-of, new-lasts, run-from, runs-at, set-after}
+use Rattle.run_table.specs.NewRuns.{firsts-of, new-lasts, run-from, runs-at, set-after}
 use Rattle.run_table.proofs.Candidates.{not-both}
 use Rattle.run_table.proofs.Tables.{no-run}
 
@@ -32,9 +32,6 @@ module _ (n : ℕ) (e : Edit) (R : List Run) where
   pub record Written (out : List Run) (next : ℕ) (candidates : List ℕ) : Type 0 where
     pub runs : take next out ≡ runs-at n e R candidates
     pub few : next ≤ length candidates
-
-  pub written-none : (out : List Run) → Written out 0 []
-  written-none out = record { runs = refl; few = omega arith }
 
   -- one candidate more
   pub written-more : (out more : List Run) (next r : ℕ) (l : List ℕ) (f : ℕ) → Written out next l → take r more ≡ take next out ++ runs-at n e R (f ∷ []) → r ≤ next + 1 →

@@ -1,3 +1,4 @@
 pub mod Tables
 pub mod Edits
+pub mod NewRuns
 pub mod Answers

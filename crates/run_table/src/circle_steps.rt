@@ -2,7 +2,7 @@
 ghost use mathlib.Core.Path.{_≡_};
 ghost use Rattle.circle.specs.Runs.{after, before};
 ghost use Rattle.rows.specs.Widths.{places-of};
-ghost use Rattle.run_table.specs.Edits.{steps};
+ghost use Rattle.run_table.specs.NewRuns.{steps};
 use rows::width::Width;
 
 // The number after this one.

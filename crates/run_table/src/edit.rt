@@ -1,7 +1,8 @@
 // An edit of a set of numbers.
 ghost use mathlib.Core.Path.{_≡_};
 ghost use Rattle.rows.specs.Widths.{places-of};
-ghost use Rattle.run_table.specs.Edits.{edit-in-width, edited, first-candidate, last-candidate, adding};
+ghost use Rattle.run_table.specs.Edits.{edit-in-width, edited};
+ghost use Rattle.run_table.specs.NewRuns.{first-candidate, last-candidate, adding};
 use super::circle_steps::number_after;
 use super::circle_steps::number_before;
 use super::run::Run;

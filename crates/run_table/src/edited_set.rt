@@ -2,11 +2,11 @@
 ghost use mathlib.Core.Path.{_≡_};
 ghost use mathlib.Core.Bool.{cond};
 ghost use mathlib.Core.List.{[], _∷_, _++_};
-ghost use Prim.Native.Nat.{_+_, _^_, _≤_, _<_, min};
+ghost use Prim.Native.Nat.{_+_, _≤_, _<_, min};
 ghost use lib.ListN.{length, take};
 ghost use Rattle.circle.specs.Runs.{begins, ends};
 ghost use Rattle.rows.specs.Widths.{places-of};
-ghost use Rattle.run_table.specs.Edits.{new-lasts, new-runs, run-from, runs-at, set-after, steps, steps-to-end};
+ghost use Rattle.run_table.specs.NewRuns.{new-lasts, new-runs, run-from, runs-at, set-after, steps, steps-to-end};
 use super::circle_steps::number_after;
 use super::circle_steps::number_before;
 use super::circle_steps::steps_between;

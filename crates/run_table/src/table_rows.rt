@@ -11,7 +11,7 @@ ghost use Rattle.rows.specs.Memory.{words-of};
 ghost use Rattle.rows.specs.RangeRows.{rows-in};
 ghost use Rattle.rows.specs.Widths.{places-of};
 ghost use Rattle.run_table.specs.Answers.{rows-answer, rows-in-width, rows-of-ranges, rows-of-set};
-ghost use Rattle.run_table.specs.Tables.{Table-of, ranges-of};
+ghost use Rattle.run_table.specs.Tables.{Table-of, ranges-of, table-runs};
 use super::run::Run;
 use super::table::RunTable;
 use rows::range::rows_of_range;
@@ -23,12 +23,18 @@ use rows::width::Width;
 const MOST_ROWS: usize = 62;
 
 impl RunTable {
-    // How many rows the runs have together, where this is the table of a set.
+    // How many rows the runs have together; one with an end outside the width has none.
     pub fn row_count(&self, width: Width) -> usize
-        ensures value { λ r. ⌜ ((S : NumberSet) → Table-of (places-of width) S (now (self .entry)) → r ≡ length (rows-of-set (places-of width) S)) ⌝ }
+        ensures value { λ r. ⌜ r ≡ length (rows-of-ranges (places-of width) (table-runs (now (self .entry)))) ⌝ }
+        ensures of_set { λ r. ⌜ ((S : NumberSet) → Table-of (places-of width) S (now (self .entry)) → r ≡ length (rows-of-set (places-of width) S)) ⌝ }
         ensures high_bound { λ r. ⌜ r ≤ 992 ⌝ }
     {
-        count_rows(width, self.standing())
+        let mut scratch = [RowWords { value: 0, care: 0 }; MOST_ROWS];
+        let mut count = 0;
+        for run in self.standing() {
+            count += write_rows_of_run(width, *run, &mut scratch);
+        }
+        count
     }
 
     // Writes the rows of the runs, where this is the table of a set, one run after the other at the start of memory, and
@@ -40,28 +46,13 @@ impl RunTable {
         ensures exact { λ r. ⌜ ((S : NumberSet) → Table-of (places-of width) S (now (self .entry)) → made r (λ k. Takes-precisely (places-of width) (rows-in (places-of width) k (now (memory .exit))) S)) ⌝ }
         ensures untouched_when_refused { λ r. ⌜ (isErr r ≡ true → now (memory .exit) ≡ now (memory .entry)) ⌝ }
     {
-        let runs = self.standing();
-        let count = count_rows(width, runs);
+        let count = self.row_count(width);
         if count > memory.len() {
             return Err(Refusal::MemoryTooShort);
         }
-        write_rows_of(width, runs, memory);
+        write_rows_of(width, self.standing(), memory);
         Ok(count)
     }
-}
-
-// How many rows the runs have.
-fn count_rows(width: Width, runs: &[Run]) -> usize
-    requires few { ⌜ length (now runs) ≤ 16 ⌝ }
-    ensures value { λ r. ⌜ r ≡ length (rows-of-ranges (places-of width) (ranges-of (now (runs .entry)))) ⌝ }
-    ensures high_bound { λ r. ⌜ r ≤ 992 ⌝ }
-{
-    let mut scratch = [RowWords { value: 0, care: 0 }; MOST_ROWS];
-    let mut count = 0;
-    for run in runs {
-        count += write_rows_of_run(width, *run, &mut scratch);
-    }
-    count
 }
 
 // Writes the rows of the runs at the start of memory.

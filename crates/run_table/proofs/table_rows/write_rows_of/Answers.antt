@@ -1,12 +1,11 @@
 use borrow.Author.Needs.{needs}
 use mathlib.Core.Path.{_≡_, sym, ap, ap₂, _∙_}
 use mathlib.Core.List.{List, _++_, map}
-use Prim.Native.Nat.{ℕ, _+_, _-_, _≤_, _<_}
+use Prim.Native.Nat.{ℕ, _+_, _-_, _≤_}
 use native.Mathlib.Nat.{zero-add}
 use native.Mathlib.Omega.{arith}
 use lib.ListN.{length, drop, getD, take}
 use Rattle.std.proofs.shelf.Lists.{length-append, length-drop, length-map, length-take, map-append, take-all}
-use Rattle.covers.specs.Symbols.{Symbols}
 use Rattle.rows.specs.Building.{written}
 use Rattle.rows.specs.Memory.{words-of}
 use Rattle.rows.specs.Widths.{places-of}

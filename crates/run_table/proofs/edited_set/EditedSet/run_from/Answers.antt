@@ -1,10 +1,10 @@
 use mathlib.Core.Path.{_≡_, ap, ap₂, _∙_}
-use Prim.Native.Nat.{ℕ, _+_, _%_, _^_, _≤_}
+use Prim.Native.Nat.{ℕ, _+_, _%_, _^_}
 use native.Mathlib.Omega.{arith}
 use Rattle.rows.specs.Widths.{places-of}
 use Rattle.rows.proofs.Widths.{places-most}
 use Rattle.run_table.specs.declared.run.Run.{Run}
-use Rattle.run_table.specs.Edits.{new-lasts, set-after, steps-to-end}
+use Rattle.run_table.specs.NewRuns.{new-lasts, set-after, steps-to-end}
 use Rattle.run_table.proofs.Steps.{wrapped}
 use Rattle.run_table.proofs.edited_set.EditedSet.run_from.Needs as need
 

@@ -1,11 +1,11 @@
-use mathlib.Core.Path.{_≡_, sym, ap, ap₂, _∙_}
+use mathlib.Core.Path.{sym, ap, ap₂, _∙_}
 use mathlib.Core.Bool.{Bool, cond}
 use Prim.Native.Nat.{ℕ, _+_, min}
 use lib.ListN.{drop}
 use Rattle.std.proofs.shelf.Lists.{at-drop-more, at-drop-all}
 use Rattle.circle.specs.Runs.{ends}
 use Rattle.rows.specs.Widths.{places-of}
-use Rattle.run_table.specs.Edits.{lasts-of, least-of, set-after, steps, steps-to-end}
+use Rattle.run_table.specs.NewRuns.{lasts-of, least-of, set-after, steps, steps-to-end}
 use Rattle.run_table.proofs.Tables.{no-run}
 use Rattle.run_table.proofs.edited_set.EditedSet.steps_to_end.Needs as need
 

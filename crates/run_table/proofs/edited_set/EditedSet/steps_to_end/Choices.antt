@@ -2,7 +2,7 @@ use mathlib.Core.Path.{_≡_}
 use lib.ListN.{drop}
 use Rattle.circle.specs.Runs.{ends}
 use Rattle.rows.specs.Widths.{places-of}
-use Rattle.run_table.specs.Edits.{lasts-of, least-of, new-lasts, set-after, steps, steps-to-end}
+use Rattle.run_table.specs.NewRuns.{lasts-of, least-of, new-lasts, set-after, steps, steps-to-end}
 use Rattle.run_table.proofs.edited_set.EditedSet.steps_to_end.Given as given
 
 -- the runs that are left give what all give

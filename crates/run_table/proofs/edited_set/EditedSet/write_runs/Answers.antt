@@ -1,15 +1,15 @@
-use mathlib.Core.Path.{_≡_, sym, ap, ap₂, _∙_}
+use mathlib.Core.Path.{sym, ap, _∙_}
 use mathlib.Core.List.{List, [], _∷_, _++_}
-use Prim.Native.Nat.{ℕ, _+_, _≤_, _<_}
+use Prim.Native.Nat.{ℕ, _+_}
 use native.Mathlib.Omega.{arith}
 use lib.Dec.{ltb}
-use lib.ListN.{length, getD, take}
+use lib.ListN.{getD, take}
 use Rattle.std.specs.shelf.Lists.{kept-by}
 use Rattle.std.proofs.shelf.Tests.{lt-ltb, le-ltb}
 use Rattle.rows.specs.Widths.{places-of}
-use Rattle.run_table.specs.Edits.{below-and-above, firsts-of, new-runs, runs-at}
+use Rattle.run_table.specs.NewRuns.{below-and-above, firsts-of, new-runs, runs-at}
 use Rattle.run_table.proofs.Tables.{no-run}
-use Rattle.run_table.proofs.Writing.{written-as, written-more, written-none, written-same, filter-takes, filter-leaves, front-few, all-firsts, so-far, so-far-few, so-far-takes, so-far-leaves, so-far-room}
+use Rattle.run_table.proofs.Writing.{written-as, written-more, written-same, filter-takes, filter-leaves, front-few, all-firsts, so-far, so-far-few, so-far-takes, so-far-leaves, so-far-room}
 use Rattle.run_table.proofs.edited_set.EditedSet.write_runs.Needs as need
 use Rattle.run_table.proofs.edited_set.EditedSet.write_runs.Needs.{then-run-new, else-run-new, then-new-run, else-new-run}
 

@@ -1,9 +1,8 @@
-use Prim.Native.Nat.{_≤_}
 use lib.Dec.{ltb}
 use lib.ListN.{take}
 use Rattle.std.specs.shelf.Lists.{kept-by}
 use Rattle.rows.specs.Widths.{places-of}
-use Rattle.run_table.specs.Edits.{firsts-of}
+use Rattle.run_table.specs.NewRuns.{firsts-of}
 use Rattle.run_table.proofs.Writing.{Written, so-far}
 use Rattle.run_table.proofs.edited_set.EditedSet.write_runs.Given as given
 

@@ -1,6 +1,6 @@
 use mathlib.Core.Path.{_≡_, sym, ap, _∙_}
 use mathlib.Core.Bool.{true}
-use mathlib.Core.List.{List, []}
+use mathlib.Core.List.{[]}
 use Prim.Native.Nat.{ℕ, _≤_, _<_}
 use native.Mathlib.Nat.{sub-zero}
 use native.Mathlib.Omega.{arith}
@@ -9,7 +9,8 @@ use Rattle.std.proofs.shelf.Tests.{both-ways}
 use Rattle.rows.specs.Widths.{places-of}
 use Rattle.rows.proofs.Widths.{places-most}
 use Rattle.run_table.specs.Tables.{ranges-of}
-use Rattle.run_table.specs.Edits.{adding, edit-in-width, new-runs}
+use Rattle.run_table.specs.Edits.{edit-in-width}
+use Rattle.run_table.specs.NewRuns.{adding, new-runs}
 use Rattle.run_table.proofs.Tables.{standing-few}
 use Rattle.run_table.proofs.EditAnswers.{count-is, none-written, some-written, answered-whole, answered-runs, answered-many}
 use Rattle.run_table.proofs.table.RunTable.after_edit.Needs as need

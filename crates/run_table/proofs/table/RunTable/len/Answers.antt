@@ -1,7 +1,6 @@
 use mathlib.Core.Path.{sym, ap, _∙_}
 use native.Mathlib.Omega.{arith}
 use lib.ListN.{length}
-use Rattle.run_table.specs.Tables.{standing}
 use Rattle.run_table.proofs.Tables.{table-length, standing-few}
 use Rattle.run_table.proofs.table.RunTable.len.Needs as need
 

@@ -1,0 +1,7 @@
+pub mod Placed
+pub mod Emptying
+pub mod Opened
+pub mod Putting
+pub mod PlacedRuns
+pub mod Granted
+pub mod Edited

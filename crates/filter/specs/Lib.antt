@@ -1,0 +1,4 @@
+pub mod Ledger
+pub mod Placement
+pub mod Compared
+pub mod StandsFor

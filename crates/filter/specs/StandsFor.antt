@@ -1,0 +1,20 @@
+-- What it means that a filter stands for a ledger.
+use mathlib.Core.Path.{_≡_}
+use Prim.Native.Nat.{_≤_}
+use lib.ListN.{length}
+use Rattle.device.specs.declared.device.RowDevice.{Ghosts}
+use Rattle.run_table.specs.Tables.{table-runs}
+use Rattle.filter.specs.declared.filter.Filter.{Filter}
+use Rattle.filter.specs.Ledger.{Ledger, ledger-runs, ledger-rows}
+use Rattle.filter.specs.Placement.{placed}
+
+-- the table lists the runs of the ledger's numbers, the slots hold their rows in order and then nothing, and mute, mark,
+-- tag, width and slot count agree
+pub record Stands-for {D : Type 0} (d : Ghosts D) (f : Filter D) (b : Ledger) : Type 0 where
+  pub width : d .state (f .device) .width ≡ b .width
+  pub muted : d .state (f .device) .muted ≡ b .held
+  pub held : f .held ≡ b .held
+  pub tag : f .tag ≡ b .tag
+  pub runs : table-runs (f .runs) ≡ ledger-runs b
+  pub fit : length (ledger-rows b) ≤ b .slots
+  pub slots : d .state (f .device) .slots ≡ placed (b .slots) (ledger-rows b)

@@ -1,0 +1,33 @@
+// Edits of the numbers that a filter holds.
+ghost use mathlib.Core.Path.{_≡_};
+ghost use mathlib.Core.Bool.{true};
+ghost use Rattle.std.specs.Results.{isErr};
+ghost use Rattle.filter.specs.Ledger.{Ledger, edit-answer, after-edit};
+ghost use Rattle.filter.specs.StandsFor.{Stands-for};
+use super::filter::Filter;
+use super::hold_token::HoldToken;
+use super::placing::place_runs;
+use device::device::RowDevice;
+use rows::refusal::Refusal;
+use run_table::edit::Edit;
+
+impl<D: RowDevice> Filter<D> {
+    // Everything that can refuse the edit is known before the device is written.
+    fn edit(&mut self, token: &HoldToken, edit: Edit) -> Result<usize, Refusal>
+        ensures step { λ r. ⌜ ((b : Ledger) → Stands-for D·RowDevice (now (self .entry)) b → (r ≡ edit-answer b (now (token .entry) .tag) edit) × Stands-for D·RowDevice (now (self .exit)) (after-edit b (now (token .entry) .tag) edit)) ⌝ }
+        ensures untouched_when_refused { λ r. ⌜ (isErr r ≡ true → now (self .exit) ≡ now (self .entry)) ⌝ }
+    {
+        if !self.held || token.tag != self.tag {
+            return Err(Refusal::NotHeld);
+        }
+        let width = self.device.width();
+        let runs = self.runs.after_edit(width, edit)?;
+        let rows = runs.row_count(width);
+        if rows > self.device.slot_count() {
+            return Err(Refusal::TooManyRows);
+        }
+        place_runs(&mut self.device, width, &runs);
+        self.runs = runs;
+        Ok(rows)
+    }
+}
