@@ -2,3 +2,4 @@ pub mod Ledger
 pub mod Placement
 pub mod Compared
 pub mod StandsFor
+pub mod Replays

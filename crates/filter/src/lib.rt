@@ -1,8 +1,11 @@
 // The receiver's filter over any device.
 pub mod asking;
-pub mod editing;
+mod call;
+mod editing;
 pub mod filter;
+mod foreign;
 pub mod hold_token;
 pub mod holding;
 pub mod opening;
 mod placing;
+mod replay;
