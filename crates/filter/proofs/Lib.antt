@@ -6,3 +6,5 @@ pub mod PlacedRuns
 pub mod Granted
 pub mod Edited
 pub mod Told
+pub mod Plays
+pub mod Kept

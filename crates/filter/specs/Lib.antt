@@ -3,3 +3,4 @@ pub mod Placement
 pub mod Compared
 pub mod StandsFor
 pub mod Replays
+pub mod Promises

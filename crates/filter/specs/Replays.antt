@@ -53,11 +53,7 @@ compared (Slot row) = Slot None
 compared (Run run) = Run run
 compared (Refused e) = Refused e
 
--- the answers to a list of calls, and the ledger after them all
-abbrev pub ledger-answers : Ledger → List FilterCall → List FilterAnswer
-ledger-answers b [] = []
-ledger-answers b (c ∷ calls) = ledger-answer b c ∷ ledger-answers (after-call b c) calls
-
+-- the ledger after a list of calls
 abbrev pub after-calls : Ledger → List FilterCall → Ledger
 after-calls b [] = b
 after-calls b (c ∷ calls) = after-calls (after-call b c) calls
@@ -65,5 +61,11 @@ after-calls b (c ∷ calls) = after-calls (after-call b c) calls
 abbrev pub calls-of : List FilterExchange → List FilterCall
 calls-of exchanges = map (λ e. e .call) exchanges
 
-abbrev pub answers-of : List FilterExchange → List FilterAnswer
-answers-of exchanges = map (λ e. compared (e .answer)) exchanges
+-- exchanges as they are compared with the ledger's
+abbrev pub as-compared : List FilterExchange → List FilterExchange
+as-compared exchanges = map (λ e. record { call = e .call; answer = compared (e .answer) }) exchanges
+
+-- the exchanges with the ledger's answer beside each call
+abbrev pub answered : Ledger → List FilterExchange → List FilterExchange
+answered b [] = []
+answered b (e ∷ exchanges) = record { call = e .call; answer = ledger-answer b (e .call) } ∷ answered (after-call b (e .call)) exchanges

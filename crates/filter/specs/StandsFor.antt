@@ -1,8 +1,10 @@
 -- What it means that a filter stands for a ledger.
 use mathlib.Core.Path.{_≡_}
-use mathlib.Core.Bool.{true}
+use mathlib.Core.Bool.{true, false}
 use Prim.Native.Nat.{_≤_}
 use lib.ListN.{length}
+use Rattle.std.specs.declared.option.Option.{Option}
+use Rattle.std.specs.declared.option.Option.the-variants.{Some, None}
 use Rattle.device.specs.declared.device.RowDevice.{Ghosts}
 use Rattle.run_table.specs.Tables.{table-runs}
 use Rattle.filter.specs.declared.filter.Filter.{Filter}
@@ -24,3 +26,8 @@ pub record Stands-for {D : Type 0} (d : Ghosts D) (f : Filter D) (b : Ledger) : 
 -- the filter is held, and the token is the one of its hold
 abbrev pub Token-fits : {D : Type 0} → Ghosts D → Filter D → HoldToken → Type 0
 Token-fits d f token = (b : Ledger) × (Stands-for d f b) × (token-fits b (token .tag) ≡ true)
+
+-- the token at hand: there is one just while the ledger is marked, and it has the ledger's tag
+abbrev pub At-hand : Ledger → Option HoldToken → Type 0
+At-hand b None = b .held ≡ false
+At-hand b (Some token) = (b .held ≡ true) × (token .tag ≡ b .tag)

@@ -14,7 +14,7 @@ use run_table::edit::Edit;
 
 impl<D: RowDevice> Filter<D> {
     // The held numbers gain the range; answers how many rows they need.
-    pub(super) fn add(&mut self, token: &HoldToken, first: u64, last: u64) -> Result<usize, Refusal>
+    pub fn add(&mut self, token: &HoldToken, first: u64, last: u64) -> Result<usize, Refusal>
         ensures step { λ r. ⌜ ((b : Ledger) → Stands-for D·RowDevice (now (self .entry)) b → (r ≡ edit-answer b (now (token .entry) .tag) (Add first last)) × Stands-for D·RowDevice (now (self .exit)) (after-edit b (now (token .entry) .tag) (Add first last))) ⌝ }
         ensures untouched_when_refused { λ r. ⌜ (isErr r ≡ true → now (self .exit) ≡ now (self .entry)) ⌝ }
     {
@@ -22,12 +22,7 @@ impl<D: RowDevice> Filter<D> {
     }
 
     // The held numbers lose the range; answers how many rows they need.
-    pub(super) fn drop(
-        &mut self,
-        token: &HoldToken,
-        first: u64,
-        last: u64,
-    ) -> Result<usize, Refusal>
+    pub fn drop(&mut self, token: &HoldToken, first: u64, last: u64) -> Result<usize, Refusal>
         ensures step { λ r. ⌜ ((b : Ledger) → Stands-for D·RowDevice (now (self .entry)) b → (r ≡ edit-answer b (now (token .entry) .tag) (Drop first last)) × Stands-for D·RowDevice (now (self .exit)) (after-edit b (now (token .entry) .tag) (Drop first last))) ⌝ }
         ensures untouched_when_refused { λ r. ⌜ (isErr r ≡ true → now (self .exit) ≡ now (self .entry)) ⌝ }
     {
