@@ -27,7 +27,7 @@ pub record Promise-beneath (b : Ledger) (l : Level) : Type 0 where
   pub shortest : length (ledger-runs b) ≡ 1 → Shortest (b .width) (rows-in (b .width) (l .slots))
   pub bounded : Within (length (ledger-runs b)) (b .width) (rows-in (b .width) (l .slots))
 
--- a device in the state s was opened with a tag, the calls were made, and now it is in the state t; b is the ledger then
+-- what holds of a device in the state t, with these levels beneath it, whose filter's ledger is b
 pub record Promise-kept (t : DeviceState) (levels : List Level) (b : Ledger) : Type 0 where
   pub width : t .width ≡ b .width
   -- the rows of the runs lie in the slots from 0 upward, and nothing in the others
@@ -41,7 +41,9 @@ pub record Promise-kept (t : DeviceState) (levels : List Level) (b : Ledger) : T
   -- the same beneath layers
   pub beneath : All (Promise-beneath b) levels
 
--- the whole promise: each call is answered as the ledger answers it, and the rows are right after them all
+-- The whole promise. A filter was opened with a tag over a device in the state s, and calls were made; the exchanges are
+-- those before and those after, with the answers, and the device is in the state t now. Each call is answered as the
+-- ledger answers it, and the rows are right after them all.
 pub record Promise (s : DeviceState) (tag : ℕ) (before after : List FilterExchange) (t : DeviceState) (levels : List Level) : Type 0 where
   pub answers : as-compared after ≡ answered (first-ledger s tag) before
   pub kept : Promise-kept t levels (last-ledger s tag before)

@@ -37,6 +37,6 @@ rows-of-ranges n ranges = joined (rows-in-width n) ranges
 abbrev pub rows-of-set : ℕ → NumberSet → List Symbols
 rows-of-set n S = rows-of-runs n (runs n S)
 
--- the number of rows of the set, refused if memory has too few places
-abbrev pub rows-answer : ℕ → NumberSet → ℕ → Result ℕ Refusal
-rows-answer n S places = cond (leb (length (rows-of-set n S)) places) (Ok (length (rows-of-set n S))) (Err MemoryTooShort)
+-- the number of rows, refused if memory has too few places
+abbrev pub rows-answer : List Symbols → ℕ → Result ℕ Refusal
+rows-answer rows places = cond (leb (length rows) places) (Ok (length rows)) (Err MemoryTooShort)

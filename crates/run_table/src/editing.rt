@@ -20,10 +20,10 @@ use rows::width::Width;
 const MOST_AFTER_EDIT: usize = 17;
 
 impl RunTable {
-    // The table of the set after the edit, where this is the table of a set. Refused if an end of the edit is no number
-    // of the width, then if the set has more than 16 runs.
+    // The table of the set after the edit, where this is the table of a set at the width; of another table the answer is
+    // left free. Refused if an end of the edit is no number of the width, then if the set has more than 16 runs.
     pub fn after_edit(&self, width: Width, edit: Edit) -> Result<RunTable, Refusal>
-        ensures answer { λ r. ⌜ ((S : NumberSet) → Table-of (places-of width) S (now (self .entry)) → edit-in-width (places-of width) edit ≡ true → Edit-answered (places-of width) edit S r) ⌝ }
+        ensures answer_else_left_free { λ r. ⌜ ((S : NumberSet) → Table-of (places-of width) S (now (self .entry)) → edit-in-width (places-of width) edit ≡ true → Edit-answered (places-of width) edit S r) ⌝ }
         ensures outside { λ r. ⌜ (edit-in-width (places-of width) edit ≡ false → r ≡ Err NumberOutsideWidth) ⌝ }
     {
         if !edit.in_width(width) {

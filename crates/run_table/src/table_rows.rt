@@ -37,11 +37,12 @@ impl RunTable {
         count
     }
 
-    // Writes the rows of the runs, where this is the table of a set, one run after the other at the start of memory, and
-    // answers how many they are. Refused if memory is shorter than the list.
+    // Writes the rows of the runs one run after the other at the start of memory, none for a run with an end outside the
+    // width, and answers how many they are. Refused if memory is shorter than the list. Where this is the table of a set,
+    // they are the rows of the set.
     pub fn write_rows(&self, width: Width, memory: &mut [RowWords]) -> Result<usize, Refusal>
-        ensures answer { λ r. ⌜ ((S : NumberSet) → Table-of (places-of width) S (now (self .entry)) → r ≡ rows-answer (places-of width) S (length (now (memory .entry)))) ⌝ }
-        ensures written { λ r. ⌜ ((S : NumberSet) → Table-of (places-of width) S (now (self .entry)) → made r (λ k. now (memory .exit) ≡ map words-of (rows-of-set (places-of width) S) ++ drop k (now (memory .entry)))) ⌝ }
+        ensures answer { λ r. ⌜ r ≡ rows-answer (rows-of-ranges (places-of width) (table-runs (now (self .entry)))) (length (now (memory .entry))) ⌝ }
+        ensures written { λ r. ⌜ made r (λ k. now (memory .exit) ≡ map words-of (rows-of-ranges (places-of width) (table-runs (now (self .entry)))) ++ drop k (now (memory .entry))) ⌝ }
         ensures by_the_rules { λ r. ⌜ ((S : NumberSet) → Table-of (places-of width) S (now (self .entry)) → made r (λ k. rows-in (places-of width) k (now (memory .exit)) ≡ rows-of-set (places-of width) S)) ⌝ }
         ensures exact { λ r. ⌜ ((S : NumberSet) → Table-of (places-of width) S (now (self .entry)) → made r (λ k. Takes-precisely (places-of width) (rows-in (places-of width) k (now (memory .exit))) S)) ⌝ }
         ensures untouched_when_refused { λ r. ⌜ (isErr r ≡ true → now (memory .exit) ≡ now (memory .entry)) ⌝ }

@@ -31,7 +31,7 @@ returns-in-Break-runs g c =
           let fits = token-fitting b tag (sym (s .held) ∙ c .if-not-self .left) (c .if-token-self .left ∙ s .tag) in
           let said =
           table-refuses b tag e fits (places-of (c .width-width .result)) (c .width-width .ensures .answer ∙ s .width) (self .runs) (s .runs) (c .after-edit .result)
-          (c .after-edit .ensures .answer) (c .after-edit .ensures .outside) (p .0) is in
+          (c .after-edit .ensures .answer-else-left-free) (c .after-edit .ensures .outside) (p .0) is in
           (p .1 ∙ sym said, subst (Stands-for (g .D·RowDevice) self) (sym (after-refused b tag e (p .0) said)) s);
       untouched-when-refused = λ _. refl;
     }
@@ -48,7 +48,7 @@ returns-then-rows-slot-count g c =
           let same = c .width-width .ensures .answer ∙ s .width in
           let fits = token-fitting b tag (sym (s .held) ∙ c .if-not-self .left) (c .if-token-self .left ∙ s .tag) in
           let now =
-          table-grants b tag e fits n same (self .runs) (s .runs) (c .after-edit .result) (c .after-edit .ensures .answer) (c .after-edit .ensures .outside) t
+          table-grants b tag e fits n same (self .runs) (s .runs) (c .after-edit .result) (c .after-edit .ensures .answer-else-left-free) (c .after-edit .ensures .outside) t
           (c .in-Continue-runs .was tt) in
           let rows = edited e (b .numbers) in
           let count = c .row-count-rows .ensures .of-set rows (now .1 ∙ ap (λ k. runs k rows) (sym same)) ∙ ap (λ k. length (rows-of-runs k (runs k rows))) same in
@@ -71,7 +71,7 @@ returns g c =
           let same = c .width-width .ensures .answer ∙ s .width in
           let fits = token-fitting b tag (sym (s .held) ∙ c .if-not-self .left) (c .if-token-self .left ∙ s .tag) in
           let now =
-          table-grants b tag e fits n same (self .runs) (s .runs) (c .after-edit .result) (c .after-edit .ensures .answer) (c .after-edit .ensures .outside) t
+          table-grants b tag e fits n same (self .runs) (s .runs) (c .after-edit .result) (c .after-edit .ensures .answer-else-left-free) (c .after-edit .ensures .outside) t
           (c .in-Continue-runs .was tt) in
           let S = edited e (b .numbers) in
           let table = now .1 ∙ ap (λ k. runs k S) (sym same) in

@@ -34,7 +34,7 @@ returns-then-count-gt-MOST-RUNS c =
     let is = count-is n e R (k .last .out) (k .result) (k .ensures .runs) (k .ensures .within) in
     let many : 16 < length (new-runs n e R) = omega arith in
     record {
-      answer = λ S q w. answered-many (c .args .self .now) n e S R (most n (places-most (c .args .width))) w (c .standing .ensures .value) q many;
+      answer-else-left-free = λ S q w. answered-many (c .args .self .now) n e S R (most n (places-most (c .args .width))) w (c .standing .ensures .value) q many;
       outside = λ o. absurd (both-ways (edit-in-width n e) o (sym (c .if-not-in-width .ensures tt .value)));
     }
 
@@ -46,7 +46,7 @@ returns-then-adds c =
     let k = c .write-runs-count in
     let none = none-written n e R (k .last .out) (k .result) (k .ensures .runs) (k .ensures .within) (c .if-count-eq0 .taken) in
     record {
-      answer = λ S q w. answered-whole (c .args .self .now) n e S R (most n (places-most (c .args .width))) w (c .standing .ensures .value) q none (sym (c .if-adds .ensures tt .value)) (c .whole .result) (c .whole .ensures .runs);
+      answer-else-left-free = λ S q w. answered-whole (c .args .self .now) n e S R (most n (places-most (c .args .width))) w (c .standing .ensures .value) q none (sym (c .if-adds .ensures tt .value)) (c .whole .result) (c .whole .ensures .runs);
       outside = λ o. absurd (both-ways (edit-in-width n e) o (sym (c .if-not-in-width .ensures tt .value)));
     }
 
@@ -62,6 +62,6 @@ returns c =
     ] in
     let held = c .holding .ensures .runs ∙ ap ranges-of (ap (λ (j : ℕ). take j (k .last .out)) (sub-zero (k .result)) ∙ k .ensures .runs) in
     record {
-      answer = λ S q w. answered-runs (c .args .self .now) n e S R (most n (places-most (c .args .width))) w (c .standing .ensures .value) q some (c .holding .result) held;
+      answer-else-left-free = λ S q w. answered-runs (c .args .self .now) n e S R (most n (places-most (c .args .width))) w (c .standing .ensures .value) q some (c .holding .result) held;
       outside = λ o. absurd (both-ways (edit-in-width n e) o (sym (c .if-not-in-width .ensures tt .value)));
     }

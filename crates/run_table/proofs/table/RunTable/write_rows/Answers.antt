@@ -1,4 +1,4 @@
-use mathlib.Core.Path.{_≡_, refl, sym, ap, ap₂, subst, _∙_}
+use mathlib.Core.Path.{_≡_, refl, sym, ap, subst, _∙_}
 use mathlib.Core.List.{List, _++_, map}
 use Prim.Native.Nat.{ℕ}
 use native.Mathlib.Omega.{arith}
@@ -27,11 +27,11 @@ write-rows-of-requires c κs =
 
 pub returns-then-count-memory : need.returns-then-count-memory
 returns-then-count-memory c =
-    let n = places-of (c .args .width) in
-    let m = c .args .memory .now in
+    let rows = rows-of-ranges (places-of (c .args .width)) (table-runs (c .args .self .now)) in
+    let e = c .row-count-count .ensures .value in
     record {
-      answer = λ S q. let e = c .row-count-count .ensures .of-set S q in sym (cond-false _ _ _ (lt-leb (length (rows-of-set n S)) (length m) (omega arith)));
-      written = λ S q. tt;
+      answer = sym (cond-false _ _ _ (lt-leb (length rows) (length (c .args .memory .now)) (omega arith)));
+      written = tt;
       by-the-rules = λ S q. tt;
       exact = λ S q. tt;
       untouched-when-refused = λ _. refl;
@@ -44,14 +44,17 @@ returns c =
     let t = c .args .self .now in
     let m = c .args .memory .now in
     let k = c .row-count-count .result in
-    let all : (S : NumberSet) → Table-of n S t → c .write-rows-of .last .memory ≡ map words-of (rows-of-set n S) ++ drop k m =
-    λ S q. c .write-rows-of .ensures .rows ∙
+    let rows = rows-of-ranges n (table-runs t) in
+    let e = c .row-count-count .ensures .value in
+    let all : c .write-rows-of .last .memory ≡ map words-of rows ++ drop k m =
+    c .write-rows-of .ensures .rows ∙
     ap (λ (R : List Run). map words-of (rows-of-ranges n (ranges-of R)) ++ drop (length (rows-of-ranges n (ranges-of R))) m) (c .standing .ensures .value) ∙
-    ap₂ (λ (l : List Symbols) (j : ℕ). map words-of l ++ drop j m) (rows-of-its-runs n S (table-runs t) q) (sym (c .row-count-count .ensures .value)) in
+    ap (λ (j : ℕ). map words-of rows ++ drop j m) (sym e) in
     let back : (S : NumberSet) → Table-of n S t → rows-in n k (c .write-rows-of .last .memory) ≡ rows-of-set n S =
-    λ S q. ap (rows-in n k) (all S q) ∙ rows-read n (rows-of-set n S) (drop k m) k (set-rows-long n S) (c .row-count-count .ensures .of-set S q) in
+    λ S q. ap (rows-in n k) (all ∙ ap (λ (l : List Symbols). map words-of l ++ drop k m) (rows-of-its-runs n S (table-runs t) q)) ∙
+    rows-read n (rows-of-set n S) (drop k m) k (set-rows-long n S) (c .row-count-count .ensures .of-set S q) in
     record {
-      answer = λ S q. let e = c .row-count-count .ensures .of-set S q in ap Ok e ∙ sym (cond-true _ _ _ (le-leb (length (rows-of-set n S)) (length m) (omega arith)));
+      answer = ap Ok e ∙ sym (cond-true _ _ _ (le-leb (length rows) (length m) (omega arith)));
       written = all;
       by-the-rules = back;
       exact = λ S q. subst (λ r. Takes-precisely n r S) (sym (back S q)) (set-rows .exact n S);
