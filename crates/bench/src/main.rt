@@ -1,4 +1,6 @@
 // Times of the calls that a receiver makes. With no argument it does nothing; with one it measures and prints.
+#![tactic(auto)]
+
 mod asks;
 mod edits;
 mod ranges_timed;

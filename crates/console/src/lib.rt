@@ -1,4 +1,6 @@
 // The support desk's console: lines in, lines out, over the public calls of a filter.
+#![tactic(auto)]
+
 pub mod answering;
 pub mod closing;
 pub mod console;

@@ -1,4 +1,6 @@
 // Tests of the console.
+#![tactic(auto)]
+
 #[cfg(test)]
 mod lines;
 #[cfg(test)]

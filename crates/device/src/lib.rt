@@ -1,4 +1,6 @@
 // Row devices: the interface behind which every chip stands, two devices, and calls played on any device.
+#![tactic(auto)]
+
 pub mod call;
 mod column;
 pub mod column_table;

@@ -1,4 +1,6 @@
 // The receiver's filter over any device.
+#![tactic(auto)]
+
 pub mod asking;
 pub mod editing;
 pub mod filter;

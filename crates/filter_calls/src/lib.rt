@@ -1,4 +1,6 @@
 // Calls to a filter as values, any list of them replayed over any device, and the whole promise.
+#![tactic(auto)]
+
 pub mod alike;
 pub mod call;
 pub mod closing;

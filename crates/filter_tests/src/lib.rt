@@ -1,4 +1,6 @@
 // Tests of the filter, by lists of calls.
+#![tactic(auto)]
+
 #[cfg(test)]
 mod calls;
 #[cfg(test)]

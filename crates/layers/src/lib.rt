@@ -1,4 +1,6 @@
 // Line maps, and layers of them over any device.
+#![tactic(auto)]
+
 pub mod flip;
 pub mod layer;
 pub mod line_map;

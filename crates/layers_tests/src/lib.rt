@@ -1,4 +1,6 @@
 // Tests of the line maps and of the layers.
+#![tactic(auto)]
+
 #[cfg(test)]
 mod maps;
 #[cfg(test)]

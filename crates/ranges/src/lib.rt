@@ -1,4 +1,6 @@
 // The rows of a range, and its witness.
+#![tactic(auto)]
+
 mod across;
 mod beside;
 mod ends;

@@ -1,4 +1,6 @@
 // The console on standard input and output.
+#![tactic(auto)]
+
 use console::session::Session;
 use std::io;
 use std::io::Read;

@@ -1,4 +1,6 @@
 // Widths, refusals, rows, and the narrowest row of two numbers.
+#![tactic(auto)]
+
 pub mod narrowest;
 pub mod refusal;
 pub mod row;

@@ -1,4 +1,6 @@
 // Tests of the calls on widths, rows, ranges and witnesses.
+#![tactic(auto)]
+
 #[cfg(test)]
 mod witnesses;
 

@@ -1,4 +1,6 @@
 // The runs of a set of numbers in a plain table, and its edits.
+#![tactic(auto)]
+
 mod circle_steps;
 pub mod edit;
 mod edited_set;

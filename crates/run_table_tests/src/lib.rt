@@ -1,4 +1,6 @@
 // Tests of the table of runs and its edits.
+#![tactic(auto)]
+
 #[cfg(test)]
 mod tests {
     use rows::refusal::Refusal;

@@ -1,4 +1,6 @@
 // Sessions of the console, each beside the output that an independent model computed for it.
+#![tactic(auto)]
+
 use console::output::console_output;
 use std::{fs, io};
 

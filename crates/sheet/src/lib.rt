@@ -1,4 +1,6 @@
 // The packed sheet: rows written into bytes, and read from them.
+#![tactic(auto)]
+
 mod codes;
 pub mod pack;
 pub mod read;

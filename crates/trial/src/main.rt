@@ -1,5 +1,7 @@
 // A printed account: ranges and their rows, witnesses, packed sheets, a pile of layers, filters over several devices, and
 // what is refused.
+#![tactic(auto)]
+
 mod piles;
 mod ranges;
 mod replays;

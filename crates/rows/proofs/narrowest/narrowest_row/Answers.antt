@@ -50,6 +50,6 @@ returns c =
       refusal = both_in n a b ha hb;
       symbols = is;
       of_width = omega arith;
-      takes-both = subst (TakesBoth n a b) (sym is) (narrowest_both n a b);
+      takes_both = subst (TakesBoth n a b) (sym is) (narrowest_both n a b);
       narrowest = subst (TakesLeast n a b) (sym is) (λ other t x h. narrowest_least n a b other t.0 t.1 x h);
     }

@@ -9,7 +9,7 @@ returns c =
     let mask = ap₂ (λ (p q : ℕ). eqb (bit_and c.args.number p) q) c.from.ensures c.from-2.ensures in
     record {
       by_mask = mask;
-      by-symbols = λ n h.
+      by_symbols = λ n h.
           let l = and_le_r row.value row.care in
           let e = row.clean in
           mask ∙ sym (words_take n row.value row.care c.args.number (omega arith) h row.clean);

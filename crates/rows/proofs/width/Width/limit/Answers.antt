@@ -4,5 +4,5 @@ use Rattle.rows.proofs.width.Width.limit.Goals as goal
 
 pub returns : goal.returns
 returns c =
-    let h = c.places.ensures.high-bound in
+    let h = c.places.ensures.high_bound in
     record { value = one_shl c.places.result 64 (omega arith) ∙ ap (λ (n : ℕ). 2 ^ n) c.places.ensures.value }

@@ -4,4 +4,4 @@ use Rattle.rows.proofs.width.Width.places.Goals as goal
 
 pub returns : goal.returns
 unfolding places_of
-returns c = record { value = refl; low-bound = omega arith; high-bound = omega arith }
+returns c = record { value = refl; low_bound = omega arith; high_bound = omega arith }
