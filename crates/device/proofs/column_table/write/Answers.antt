@@ -13,7 +13,7 @@ loop-place-preserved c =
     let here : at < length columns = omega arith in
     let now : (i : ℕ) → column_symbol c.write.new.self i ≡ cond (eqb i slot) (row_symbol c.args.row at) (column_symbol (get_or columns at blank_column) i) =
     λ i. c.write.ensures.value i ∙
-    ap (λ (s : Option Symbol). cond (eqb i slot) s (column_symbol (get_or columns at blank_column) i)) c.symbol-for.ensures.value in
+    ap (λ (s : Option Symbol). cond (eqb i slot) s (column_symbol (get_or columns at blank_column) i)) c.symbol_for.ensures.value in
     let inv = c.loop-place.invariant in (
       length-set columns at c.write.new.self ∙ inv.0,
       written_more was columns at slot c.args.row c.write.new.self here now inv.2 inv.1,

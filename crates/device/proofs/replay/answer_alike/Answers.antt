@@ -44,9 +44,9 @@ returns g c =
     let inv = c.loop-call.invariant in
     let rest : answers_to a (drop c.loop-call.call-index cs) ≡ answers_to b (drop c.loop-call.call-index cs) = rw none in
     record {
-      same-meaning = λ e. (inv.0 (ap (λ (s : DeviceState). answers_to s cs) e)).0;
+      same_meaning = λ e. (inv.0 (ap (λ (s : DeviceState). answers_to s cs) e)).0;
       alike = λ e. (inv.0 e).0;
-      only-alike = λ t. inv.1 t rest;
-      first-after = sym (ap (after_calls a) none) ∙ inv.2;
-      second-after = sym (ap (after_calls b) none) ∙ inv.3;
+      only_alike = λ t. inv.1 t rest;
+      first_after = sym (ap (after_calls a) none) ∙ inv.2;
+      second_after = sym (ap (after_calls b) none) ∙ inv.3;
     }

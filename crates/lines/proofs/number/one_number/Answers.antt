@@ -6,11 +6,11 @@ use Rattle.std.specs.Str.Parse.{AllDigits, digits_value_after}
 use Rattle.lines.proofs.Figures.{value_more, digits_more, bound_more, digit_value_at}
 use Rattle.lines.proofs.number.one_number.Goals as goal
 
-pub returns-in-default : goal.returns-in-default
-returns-in-default c = record {
+pub returns-in_default : goal.returns-in_default
+returns-in_default c = record {
   accepted = λ x w.
       let d = digit_value_at c.args.text.now c.loop-byte.byte-index w.digits.1 c.loop-byte-test.true in
-      absurd (c.in-default.ensures.value (subst (λ b. digit_value b < 10) (sym c.from.ensures) d));
+      absurd (c.in_default.ensures.value (subst (λ b. digit_value b < 10) (sym c.from.ensures) d));
   only = refl;
 }
 
@@ -33,12 +33,12 @@ returns c =
     let inv = c.loop-byte.invariant in
     let none = drop_all c.loop-byte.byte-index text c.loop-byte-test.false in
     let number = sym (ap (digits_value_after 10 c.loop-byte.number) none) ∙ inv.0 in
-    let some = eqb-false (length text) 0 (sym c.if-is-empty.ensures) in
+    let some = eqb-false (length text) 0 (sym c.if-is_empty.ensures) in
     record {
       accepted = λ x w. ap Ok (number ∙ w.number);
       only = record {
         digits = (omega (arith, some), inv.1 (subst (AllDigits 10) (sym none) tt));
-        few = c.if-text-gt-MOST-DIGITS.false;
+        few = c.if-text-gt-MOST_DIGITS.false;
         number = sym number;
       };
     }

@@ -11,7 +11,7 @@ returns-in-err-first c =
     let two : 2 ≤ length line = omega (arith, ltb-false) in
     let space = c.if-space-ne32.false in
     let is = opened_line line 43 32 two (sym c.from.ensures ∙ c.in-43.is) space in
-    let p = err_from_is_err_and c.from-residual.result c.from-residual.ensures.1 in
+    let p = err_from_is_err_and c.from_residual.result c.from_residual.ensures.1 in
     rw (p.1, p.2) record {
       accepted = λ d m. let k = means_add line _ is d m in let q = c.in-err-first.ensures.accepted k.0 k.1 k.3 in grind arith;
       only = c.in-err-first.ensures.only;

@@ -62,13 +62,13 @@ ends_length lead front row p a b rest e = length_behind lead (across_rows p a b)
 
 pub bounds-out-at : goal.bounds-out-at
 bounds-out-at t c =
-    let k = length_behind c.args.lead (across_rows c.args.places c.args.first c.args.last) _ (whole_at c.args.lead c.args.places c.args.first c.args.last c.if-first-eq0.true c.requires.places-within c.if-last-limit.true) in
+    let k = length_behind c.args.lead (across_rows c.args.places c.args.first c.args.last) _ (whole_at c.args.lead c.args.places c.args.first c.args.last c.if-first-eq0.true c.requires.places_within c.if-last-limit.true) in
     let room = c.requires.room in
     omega arith
 
 pub returns-then-last-limit : goal.returns-then-last-limit
 returns-then-last-limit t c =
-    let all = whole_at c.args.lead c.args.places c.args.first c.args.last c.if-first-eq0.true c.requires.places-within c.if-last-limit.true in
+    let all = whole_at c.args.lead c.args.places c.args.first c.args.last c.if-first-eq0.true c.requires.places_within c.if-last-limit.true in
     let k = length_behind c.args.lead (across_rows c.args.places c.args.first c.args.last) _ all in
     let room = c.requires.room in
     record {
@@ -78,7 +78,7 @@ returns-then-last-limit t c =
 
 pub bounds-out-at-then-first-eq0 : goal.bounds-out-at-then-first-eq0
 bounds-out-at-then-first-eq0 t c =
-    let h = below_top c.args.places c.args.last c.requires.places-within c.requires.last_within c.if-last-limit.false in
+    let h = below_top c.args.places c.args.last c.requires.places_within c.requires.last_within c.if-last-limit.false in
     let k = ends_length c.args.lead c.args.lead.one c.args.lead.zero c.args.places c.args.first c.args.last (end_list c.args.places (c.args.last + 1) false)
     (from_zero_at c.args.lead c.args.places c.args.first c.args.last c.if-first-eq0.true h) in
     let room = c.requires.room in
@@ -86,15 +86,15 @@ bounds-out-at-then-first-eq0 t c =
 
 pub end-rows-requires : goal.end-rows-requires
 end-rows-requires t c =
-    let h = below_top c.args.places c.args.last c.requires.places-within c.requires.last_within c.if-last-limit.false in
+    let h = below_top c.args.places c.args.last c.requires.places_within c.requires.last_within c.if-last-limit.false in
     let k = ends_length c.args.lead c.args.lead.one c.args.lead.zero c.args.places c.args.first c.args.last (end_list c.args.places (c.args.last + 1) false)
     (from_zero_at c.args.lead c.args.places c.args.first c.args.last c.if-first-eq0.true h) in
     let room = c.requires.room in
-    record { places-within = omega arith; some = omega arith; count-within = omega arith; free = c.requires.free.one; room = simp length-set (omega arith) }
+    record { places_within = omega arith; some = omega arith; count_within = omega arith; free = c.requires.free.one; room = simp length-set (omega arith) }
 
 pub returns-then-first-eq0 : goal.returns-then-first-eq0
 returns-then-first-eq0 t c =
-    let h = below_top c.args.places c.args.last c.requires.places-within c.requires.last_within c.if-last-limit.false in
+    let h = below_top c.args.places c.args.last c.requires.places_within c.requires.last_within c.if-last-limit.false in
     let all = from_zero_at c.args.lead c.args.places c.args.first c.args.last c.if-first-eq0.true h in
     let k = ends_length c.args.lead c.args.lead.one c.args.lead.zero c.args.places c.args.first c.args.last (end_list c.args.places (c.args.last + 1) false) all in
     let room = c.requires.room in
@@ -117,22 +117,22 @@ module _ (lead : Lead) (p a b : ℕ) (hp : p < 32) (low : a ≡ 0 → ⊥) (ha :
 
 pub bounds-out-at-then-last-limit-2 : goal.bounds-out-at-then-last-limit-2
 bounds-out-at-then-last-limit-2 t c =
-    let k = highest_length c.args.lead c.args.places c.args.first c.args.last c.requires.places-within c.if-first-eq0.false c.requires.first-within c.if-last-limit-2.true in
+    let k = highest_length c.args.lead c.args.places c.args.first c.args.last c.requires.places_within c.if-first-eq0.false c.requires.first_within c.if-last-limit-2.true in
     let room = c.requires.room in
     omega arith
 
 pub end-rows-requires-then-last-limit-2 : goal.end-rows-requires-then-last-limit-2
 end-rows-requires-then-last-limit-2 t c =
     let w = one_shl c.args.places 64 (omega arith) in
-    let k = highest_length c.args.lead c.args.places c.args.first c.args.last c.requires.places-within c.if-first-eq0.false c.requires.first-within c.if-last-limit-2.true in
+    let k = highest_length c.args.lead c.args.places c.args.first c.args.last c.requires.places_within c.if-first-eq0.false c.requires.first_within c.if-last-limit-2.true in
     let room = c.requires.room in
-    let ha = c.requires.first-within in
-    record { places-within = omega arith; some = omega arith; count-within = omega arith; free = c.requires.free.zero; room = simp length-set (omega arith) }
+    let ha = c.requires.first_within in
+    record { places_within = omega arith; some = omega arith; count_within = omega arith; free = c.requires.free.zero; room = simp length-set (omega arith) }
 
 pub returns-then-last-limit-2 : goal.returns-then-last-limit-2
 returns-then-last-limit-2 t c =
-    let all = highest c.args.lead c.args.places c.args.first c.args.last c.requires.places-within c.if-first-eq0.false c.requires.first-within c.if-last-limit-2.true in
-    let k = highest_length c.args.lead c.args.places c.args.first c.args.last c.requires.places-within c.if-first-eq0.false c.requires.first-within c.if-last-limit-2.true in
+    let all = highest c.args.lead c.args.places c.args.first c.args.last c.requires.places_within c.if-first-eq0.false c.requires.first_within c.if-last-limit-2.true in
+    let k = highest_length c.args.lead c.args.places c.args.first c.args.last c.requires.places_within c.if-first-eq0.false c.requires.first_within c.if-last-limit-2.true in
     let room = c.requires.room in
     let after = c.end-rows-then-last-limit-2.ensures.next in
     record {
@@ -145,19 +145,19 @@ returns-then-last-limit-2 t c =
 
 pub rows-in-inner-quarters-requires : goal.rows-in-inner-quarters-requires
 rows-in-inner-quarters-requires t c =
-    let M = middle c.args.places c.args.first c.args.last c.requires.places-within c.requires.first-within c.requires.last_within c.if-first-eq0.false c.if-last-limit-2.false in
+    let M = middle c.args.places c.args.first c.args.last c.requires.places_within c.requires.first_within c.requires.last_within c.if-first-eq0.false c.if-last-limit-2.false in
     let h = M.half in
     let d = M.double in
     let k = ap length (inner_quarters_at c.args.places c.args.first c.args.last _ M.some M.half c.if-first-half.true) in
     let room = c.requires.room in
-    let ha = c.requires.first-within in
+    let ha = c.requires.first_within in
     let some = M.some in
     let low = c.if-last-half.true in
-    record { place-within = omega arith; first-within = omega arith; last_within = omega arith; free = free_at c.args.places c.args.lead M.some c.requires.free; room = omega arith }
+    record { place_within = omega arith; first_within = omega arith; last_within = omega arith; free = free_at c.args.places c.args.lead M.some c.requires.free; room = omega arith }
 
 pub returns-then-last-half : goal.returns-then-last-half
 returns-then-last-half t c =
-    let M = middle c.args.places c.args.first c.args.last c.requires.places-within c.requires.first-within c.requires.last_within c.if-first-eq0.false c.if-last-limit-2.false in
+    let M = middle c.args.places c.args.first c.args.last c.requires.places_within c.requires.first_within c.requires.last_within c.if-first-eq0.false c.if-last-limit-2.false in
     let e = inner_quarters_at c.args.places c.args.first c.args.last _ M.some M.half c.if-first-half.true in
     record {
       rows = c.rows-in-inner-quarters.ensures.rows ∙ ap (λ l. written c.args.out.now c.args.at (map (behind_lead c.args.lead) l)) (sym e);
@@ -166,7 +166,7 @@ returns-then-last-half t c =
 
 pub rows-of-ends-apart-requires : goal.rows-of-ends-apart-requires
 rows-of-ends-apart-requires t c =
-    let M = middle c.args.places c.args.first c.args.last c.requires.places-within c.requires.first-within c.requires.last_within c.if-first-eq0.false c.if-last-limit-2.false in
+    let M = middle c.args.places c.args.first c.args.last c.requires.places_within c.requires.first_within c.requires.last_within c.if-first-eq0.false c.if-last-limit-2.false in
     let h = M.half in
     let d = M.double in
     let k = ap length (ends_apart_at c.args.places c.args.first c.args.last _ M.some M.half c.if-last-half-2.false) in
@@ -174,11 +174,11 @@ rows-of-ends-apart-requires t c =
     let some = M.some in
     let low = c.if-first-half.false in
     let far = c.if-first-last.true in
-    record { place-within = omega arith; first-within = omega arith; apart = omega arith; free = free_at c.args.places c.args.lead M.some c.requires.free; room = omega arith }
+    record { place_within = omega arith; first_within = omega arith; apart = omega arith; free = free_at c.args.places c.args.lead M.some c.requires.free; room = omega arith }
 
 pub returns-then-first-last : goal.returns-then-first-last
 returns-then-first-last t c =
-    let M = middle c.args.places c.args.first c.args.last c.requires.places-within c.requires.first-within c.requires.last_within c.if-first-eq0.false c.if-last-limit-2.false in
+    let M = middle c.args.places c.args.first c.args.last c.requires.places_within c.requires.first_within c.requires.last_within c.if-first-eq0.false c.if-last-limit-2.false in
     let e = ends_apart_at c.args.places c.args.first c.args.last _ M.some M.half c.if-last-half-2.false in
     record {
       rows = c.rows-of-ends-apart.ensures.rows ∙ ap (λ l. written c.args.out.now c.args.at (map (behind_lead c.args.lead) l)) (sym e);
@@ -187,41 +187,41 @@ returns-then-first-last t c =
 
 pub extend-requires : goal.extend-requires
 extend-requires t c =
-    let M = middle c.args.places c.args.first c.args.last c.requires.places-within c.requires.first-within c.requires.last_within c.if-first-eq0.false c.if-last-limit-2.false in
+    let M = middle c.args.places c.args.first c.args.last c.requires.places_within c.requires.first_within c.requires.last_within c.if-first-eq0.false c.if-last-limit-2.false in
     let f = free_place c.args.places c.args.lead.one M.some c.requires.free.one in
     let some = M.some in
-    record { place-within = omega arith; value-free = f.0; care-free = f.1 }
+    record { place_within = omega arith; value_free = f.0; care_free = f.1 }
 
 pub inserted-requires : goal.inserted-requires
 inserted-requires t c =
-    let M = middle c.args.places c.args.first c.args.last c.requires.places-within c.requires.first-within c.requires.last_within c.if-first-eq0.false c.if-last-limit-2.false in
+    let M = middle c.args.places c.args.first c.args.last c.requires.places_within c.requires.first_within c.requires.last_within c.if-first-eq0.false c.if-last-limit-2.false in
     let some = M.some in
-    record { place-within = omega arith; free = free_at c.args.places c.args.lead M.some c.requires.free }
+    record { place_within = omega arith; free = free_at c.args.places c.args.lead M.some c.requires.free }
 
 pub bounds-out-at-then-first-half : goal.bounds-out-at-then-first-half
 bounds-out-at-then-first-half t c =
-    let M = middle c.args.places c.args.first c.args.last c.requires.places-within c.requires.first-within c.requires.last_within c.if-first-eq0.false c.if-last-limit-2.false in
-    let k = third_quarter_length c.args.places c.args.first c.args.last _ M.some M.half c.if-first-half.true c.requires.first-within c.if-last-half.false M.last in
+    let M = middle c.args.places c.args.first c.args.last c.requires.places_within c.requires.first_within c.requires.last_within c.if-first-eq0.false c.if-last-limit-2.false in
+    let k = third_quarter_length c.args.places c.args.first c.args.last _ M.some M.half c.if-first-half.true c.requires.first_within c.if-last-half.false M.last in
     let room = c.requires.room in
     omega arith
 
 pub rows-across-requires : goal.rows-across-requires
 rows-across-requires t c =
-    let M = middle c.args.places c.args.first c.args.last c.requires.places-within c.requires.first-within c.requires.last_within c.if-first-eq0.false c.if-last-limit-2.false in
-    let k = third_quarter_length c.args.places c.args.first c.args.last _ M.some M.half c.if-first-half.true c.requires.first-within c.if-last-half.false M.last in
+    let M = middle c.args.places c.args.first c.args.last c.requires.places_within c.requires.first_within c.requires.last_within c.if-first-eq0.false c.if-last-limit-2.false in
+    let k = third_quarter_length c.args.places c.args.first c.args.last _ M.some M.half c.if-first-half.true c.requires.first_within c.if-last-half.false M.last in
     let h = M.half in
     let d = M.double in
     let some = M.some in
     let top = M.last in
     let room = c.requires.room in
-    let ha = c.requires.first-within in
+    let ha = c.requires.first_within in
     (search rules, (omega arith, (omega arith, (omega arith, (c.inserted.ensures.free, simp length-set (omega arith))))))
 
 pub returns-then-first-half : goal.returns-then-first-half
 returns-then-first-half t c =
-    let M = middle c.args.places c.args.first c.args.last c.requires.places-within c.requires.first-within c.requires.last_within c.if-first-eq0.false c.if-last-limit-2.false in
-    let k = third_quarter_length c.args.places c.args.first c.args.last _ M.some M.half c.if-first-half.true c.requires.first-within c.if-last-half.false M.last in
-    let all = third_quarter_at c.args.lead c.inserted.result c.extend.result c.args.places c.args.first c.args.last _ M.some M.half c.if-first-half.true c.requires.first-within c.if-last-half.false M.last c.extend.ensures.extended c.inserted.ensures.inserted in
+    let M = middle c.args.places c.args.first c.args.last c.requires.places_within c.requires.first_within c.requires.last_within c.if-first-eq0.false c.if-last-limit-2.false in
+    let k = third_quarter_length c.args.places c.args.first c.args.last _ M.some M.half c.if-first-half.true c.requires.first_within c.if-last-half.false M.last in
+    let all = third_quarter_at c.args.lead c.inserted.result c.extend.result c.args.places c.args.first c.args.last _ M.some M.half c.if-first-half.true c.requires.first_within c.if-last-half.false M.last c.extend.ensures.extended c.inserted.ensures.inserted in
     let room = c.requires.room in
     let after = c.rows_across.ensures.next in
     record {
@@ -234,41 +234,41 @@ returns-then-first-half t c =
 
 pub extend-requires-then-last-half-2 : goal.extend-requires-then-last-half-2
 extend-requires-then-last-half-2 t c =
-    let M = middle c.args.places c.args.first c.args.last c.requires.places-within c.requires.first-within c.requires.last_within c.if-first-eq0.false c.if-last-limit-2.false in
+    let M = middle c.args.places c.args.first c.args.last c.requires.places_within c.requires.first_within c.requires.last_within c.if-first-eq0.false c.if-last-limit-2.false in
     let f = free_place c.args.places c.args.lead.zero M.some c.requires.free.zero in
     let some = M.some in
-    record { place-within = omega arith; value-free = f.0; care-free = f.1 }
+    record { place_within = omega arith; value_free = f.0; care_free = f.1 }
 
 pub inserted-requires-then-last-half-2 : goal.inserted-requires-then-last-half-2
 inserted-requires-then-last-half-2 t c =
-    let M = middle c.args.places c.args.first c.args.last c.requires.places-within c.requires.first-within c.requires.last_within c.if-first-eq0.false c.if-last-limit-2.false in
+    let M = middle c.args.places c.args.first c.args.last c.requires.places_within c.requires.first_within c.requires.last_within c.if-first-eq0.false c.if-last-limit-2.false in
     let some = M.some in
-    record { place-within = omega arith; free = free_at c.args.places c.args.lead M.some c.requires.free }
+    record { place_within = omega arith; free = free_at c.args.places c.args.lead M.some c.requires.free }
 
 pub bounds-out-at-then-last-half-2 : goal.bounds-out-at-then-last-half-2
 bounds-out-at-then-last-half-2 t c =
-    let M = middle c.args.places c.args.first c.args.last c.requires.places-within c.requires.first-within c.requires.last_within c.if-first-eq0.false c.if-last-limit-2.false in
+    let M = middle c.args.places c.args.first c.args.last c.requires.places_within c.requires.first_within c.requires.last_within c.if-first-eq0.false c.if-last-limit-2.false in
     let k = second_quarter_length c.args.places c.args.first c.args.last _ M.some M.half M.first c.if-first-half.false c.if-last-half-2.true in
     let room = c.requires.room in
     omega arith
 
 pub rows-across-requires-then-last-half-2 : goal.rows-across-requires-then-last-half-2
 rows-across-requires-then-last-half-2 t c =
-    let M = middle c.args.places c.args.first c.args.last c.requires.places-within c.requires.first-within c.requires.last_within c.if-first-eq0.false c.if-last-limit-2.false in
+    let M = middle c.args.places c.args.first c.args.last c.requires.places_within c.requires.first_within c.requires.last_within c.if-first-eq0.false c.if-last-limit-2.false in
     let k = second_quarter_length c.args.places c.args.first c.args.last _ M.some M.half M.first c.if-first-half.false c.if-last-half-2.true in
     let h = M.half in
     let d = M.double in
     let some = M.some in
     let top = M.last in
     let room = c.requires.room in
-    let ha = c.requires.first-within in
+    let ha = c.requires.first_within in
     let la = c.if-first-half.false in
     let lb = c.if-last-half-2.true in
     (search rules, (omega arith, (omega arith, (omega arith, (c.inserted-then-last-half-2.ensures.free, simp length-set (omega arith))))))
 
 pub returns-then-last-half-2 : goal.returns-then-last-half-2
 returns-then-last-half-2 t c =
-    let M = middle c.args.places c.args.first c.args.last c.requires.places-within c.requires.first-within c.requires.last_within c.if-first-eq0.false c.if-last-limit-2.false in
+    let M = middle c.args.places c.args.first c.args.last c.requires.places_within c.requires.first_within c.requires.last_within c.if-first-eq0.false c.if-last-limit-2.false in
     let k = second_quarter_length c.args.places c.args.first c.args.last _ M.some M.half M.first c.if-first-half.false c.if-last-half-2.true in
     let all = second_quarter_at c.args.lead c.inserted-then-last-half-2.result c.extend-then-last-half-2.result c.args.places c.args.first c.args.last _ M.some M.half M.first c.if-first-half.false c.if-last-half-2.true c.extend-then-last-half-2.ensures.extended c.inserted-then-last-half-2.ensures.inserted in
     let room = c.requires.room in
@@ -283,40 +283,40 @@ returns-then-last-half-2 t c =
 
 pub extend-requires-2 : goal.extend-requires-2
 extend-requires-2 t c =
-    let M = middle c.args.places c.args.first c.args.last c.requires.places-within c.requires.first-within c.requires.last_within c.if-first-eq0.false c.if-last-limit-2.false in
+    let M = middle c.args.places c.args.first c.args.last c.requires.places_within c.requires.first_within c.requires.last_within c.if-first-eq0.false c.if-last-limit-2.false in
     let f = free_place c.args.places c.args.lead.zero M.some c.requires.free.zero in
     let some = M.some in
-    record { place-within = omega arith; value-free = f.0; care-free = f.1 }
+    record { place_within = omega arith; value_free = f.0; care_free = f.1 }
 
 pub widened-requires : goal.widened-requires
 widened-requires t c =
-    let M = middle c.args.places c.args.first c.args.last c.requires.places-within c.requires.first-within c.requires.last_within c.if-first-eq0.false c.if-last-limit-2.false in
+    let M = middle c.args.places c.args.first c.args.last c.requires.places_within c.requires.first_within c.requires.last_within c.if-first-eq0.false c.if-last-limit-2.false in
     let some = M.some in
-    record { place-within = omega arith; free = free_at c.args.places c.args.lead M.some c.requires.free }
+    record { place_within = omega arith; free = free_at c.args.places c.args.lead M.some c.requires.free }
 
 pub bounds-out-at-2 : goal.bounds-out-at-2
 bounds-out-at-2 t c =
-    let M = middle c.args.places c.args.first c.args.last c.requires.places-within c.requires.first-within c.requires.last_within c.if-first-eq0.false c.if-last-limit-2.false in
+    let M = middle c.args.places c.args.first c.args.last c.requires.places_within c.requires.first_within c.requires.last_within c.if-first-eq0.false c.if-last-limit-2.false in
     let k = ends_overlap_length c.args.places c.args.first c.args.last _ M.some M.half M.first c.if-first-half.false c.if-last-half-2.false M.last c.if-first-last.false in
     let room = c.requires.room in
     omega arith
 
 pub rows-across-requires-2 : goal.rows-across-requires-2
 rows-across-requires-2 t c =
-    let M = middle c.args.places c.args.first c.args.last c.requires.places-within c.requires.first-within c.requires.last_within c.if-first-eq0.false c.if-last-limit-2.false in
+    let M = middle c.args.places c.args.first c.args.last c.requires.places_within c.requires.first_within c.requires.last_within c.if-first-eq0.false c.if-last-limit-2.false in
     let k = ends_overlap_length c.args.places c.args.first c.args.last _ M.some M.half M.first c.if-first-half.false c.if-last-half-2.false M.last c.if-first-last.false in
     let h = M.half in
     let d = M.double in
     let some = M.some in
     let top = M.last in
     let room = c.requires.room in
-    let ha = c.requires.first-within in
+    let ha = c.requires.first_within in
     let la = c.if-first-half.false in
     (search rules, (omega arith, (omega arith, (omega arith, (c.widened.ensures.free, simp length-set (omega arith))))))
 
 pub returns : goal.returns
 returns t c =
-    let M = middle c.args.places c.args.first c.args.last c.requires.places-within c.requires.first-within c.requires.last_within c.if-first-eq0.false c.if-last-limit-2.false in
+    let M = middle c.args.places c.args.first c.args.last c.requires.places_within c.requires.first_within c.requires.last_within c.if-first-eq0.false c.if-last-limit-2.false in
     let k = ends_overlap_length c.args.places c.args.first c.args.last _ M.some M.half M.first c.if-first-half.false c.if-last-half-2.false M.last c.if-first-last.false in
     let all = ends_overlap_at c.args.lead c.widened.result c.extend-2.result c.args.places c.args.first c.args.last _ M.some M.half M.first c.if-first-half.false c.if-last-half-2.false M.last c.if-first-last.false c.extend-2.ensures.extended c.widened.ensures.widened in
     let room = c.requires.room in

@@ -19,8 +19,8 @@ write-parting-requires t c =
     let some : 0 < c.args.places = omega arith in
     let k = ap length (beside_at_parting c.args.places some c.args.before c.args.after c.has-one.result c.has-one-2.result c.has-one.ensures.value c.has-one-2.ensures.value c.args.over c.if-has-one.true) in
     let room = c.requires.room in
-    let small = c.requires.places-within in
-    record { place-within = omega arith; before-within = c.requires.before-within; after-within = c.requires.after-within; room = omega arith }
+    let small = c.requires.places_within in
+    record { place_within = omega arith; before_within = c.requires.before_within; after_within = c.requires.after_within; room = omega arith }
 
 pub returns-then-has-one : goal.returns-then-has-one
 returns-then-has-one t c =
@@ -43,8 +43,8 @@ write-beside-requires t c =
     let some : 0 < c.args.places = omega arith in
     let k = ap length (beside_at_one c.args.places some c.args.before c.args.after c.has-one.result c.has-one-2.result c.has-one.ensures.value c.has-one-2.ensures.value c.args.over c.if-over.true c.if-has-one.false) in
     let room = c.requires.room in
-    let small = c.requires.places-within in
-    (search rules, (omega arith, (c.requires.before-within, (c.requires.after-within, simp length-set (omega arith)))))
+    let small = c.requires.places_within in
+    (search rules, (omega arith, (c.requires.before_within, (c.requires.after_within, simp length-set (omega arith)))))
 
 pub returns-then-over : goal.returns-then-over
 returns-then-over t c =
@@ -67,8 +67,8 @@ write-beside-requires-2 t c =
     let some : 0 < c.args.places = omega arith in
     let k = ap length (beside_at_shared c.args.places some c.args.before c.args.after c.has-one.result c.has-one-2.result c.has-one.ensures.value c.has-one-2.ensures.value c.args.over c.if-over.false c.if-has-one.false) in
     let room = c.requires.room in
-    let small = c.requires.places-within in
-    (search rules, (omega arith, (c.requires.before-within, (c.requires.after-within, omega arith))))
+    let small = c.requires.places_within in
+    (search rules, (omega arith, (c.requires.before_within, (c.requires.after_within, omega arith))))
 
 pub returns : goal.returns
 returns t c =

@@ -43,23 +43,23 @@ module _ (p b a : ℕ) (small : p ≤ 32) (near : b % ((1 * 2 ^ p) % 18446744073
 
 pub write-each-turned-next-requires : goal.write-each-turned-next-requires
 write-each-turned-next-requires t c =
-    let k = rest_length c.args.places c.args.before c.args.after c.requires.places-within c.if-before-limit.true in
+    let k = rest_length c.args.places c.args.before c.args.after c.requires.places_within c.if-before-limit.true in
     let room = c.requires.room in
-    record { places-within = c.requires.places-within; number-within = c.requires.before-within; room = omega arith }
+    record { places_within = c.requires.places_within; number_within = c.requires.before_within; room = omega arith }
 
 pub write-each-turned-requires : goal.write-each-turned-requires
 write-each-turned-requires t c =
-    let k = rest_length c.args.places c.args.before c.args.after c.requires.places-within c.if-before-limit.true in
+    let k = rest_length c.args.places c.args.before c.args.after c.requires.places_within c.if-before-limit.true in
     let room = c.requires.room in
     let next = c.write-each-turned-next.ensures.next in
-    record { places-within = c.requires.places-within; number-within = c.requires.after-within; room = omega arith }
+    record { places_within = c.requires.places_within; number_within = c.requires.after_within; room = omega arith }
 
 pub returns-then-before-limit : goal.returns-then-before-limit
 returns-then-before-limit t c =
     let p = c.args.places in
     let b = c.args.before in
     let a = c.args.after in
-    let k = rest_length p b a c.requires.places-within c.if-before-limit.true in
+    let k = rest_length p b a c.requires.places_within c.if-before-limit.true in
     let room = c.requires.room in
     let next = c.write-each-turned-next.ensures.next in
     let after = c.write-each-turned.ensures.next in
@@ -68,33 +68,33 @@ returns-then-before-limit t c =
           c.write-each-turned.ensures.numbers ∙
           written_after (each_turned false p b) (each_turned true p a) c.args.out.now c.write-each-turned-next.new.out c.args.at c.write-each-turned-next.result (omega arith)
           c.write-each-turned-next.ensures.numbers next ∙
-          ap (written c.args.out.now c.args.at) (sym (rest p b a c.requires.places-within c.if-before-limit.true));
+          ap (written c.args.out.now c.args.at) (sym (rest p b a c.requires.places_within c.if-before-limit.true));
       next = omega arith;
     }
 
 pub overflow-sub-place : goal.overflow-sub-place
-overflow-sub-place t c = some_places c.args.places c.args.before c.args.after c.requires.places-within c.if-before-limit.false
+overflow-sub-place t c = some_places c.args.places c.args.before c.args.after c.requires.places_within c.if-before-limit.false
 
 pub bounds-out-at : goal.bounds-out-at
 bounds-out-at t c =
-    let k = ap length (first c.args.places c.args.before c.args.after c.requires.places-within c.if-before-limit.false) in
+    let k = ap length (first c.args.places c.args.before c.args.after c.requires.places_within c.if-before-limit.false) in
     let room = c.requires.room in
     omega arith
 
 pub write-inner-requires : goal.write-inner-requires
 write-inner-requires t c =
-    let some = some_places c.args.places c.args.before c.args.after c.requires.places-within c.if-before-limit.false in
-    let k = ap length (first c.args.places c.args.before c.args.after c.requires.places-within c.if-before-limit.false) in
+    let some = some_places c.args.places c.args.before c.args.after c.requires.places_within c.if-before-limit.false in
+    let k = ap length (first c.args.places c.args.before c.args.after c.requires.places_within c.if-before-limit.false) in
     let room = c.requires.room in
-    let small = c.requires.places-within in
-    (search rules, (omega arith, (c.requires.before-within, (c.requires.after-within, simp length-set (omega arith)))))
+    let small = c.requires.places_within in
+    (search rules, (omega arith, (c.requires.before_within, (c.requires.after_within, simp length-set (omega arith)))))
 
 pub returns : goal.returns
 returns t c =
     let p = c.args.places in
     let b = c.args.before in
     let a = c.args.after in
-    let all = first p b a c.requires.places-within c.if-before-limit.false in
+    let all = first p b a c.requires.places_within c.if-before-limit.false in
     let k = ap length all in
     let room = c.requires.room in
     let after = c.write-inner.ensures.next in

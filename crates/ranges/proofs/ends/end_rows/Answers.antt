@@ -12,8 +12,8 @@ use Rattle.ranges.proofs.EndLists.{end_whole, end_below, end_length, turned_leng
 use Rattle.ranges.proofs.ends.end_rows.Goals as goal
 use Rattle.ranges.proofs.ends.end_rows.Goals.{then-count-places, else-count-places}
 
-pub overflow-cast-rows : goal.overflow-cast-rows
-overflow-cast-rows c = let k = ones-le 64 c.args.count (omega arith) in omega arith
+pub overflow_cast-rows : goal.overflow_cast-rows
+overflow_cast-rows c = let k = ones-le 64 c.args.count (omega arith) in omega arith
 
 pub bounds-out-at : goal.bounds-out-at
 bounds-out-at c =
@@ -28,22 +28,22 @@ below_room m count p h other k =
     let not_all : count ≡ 2 ^ m → ⊥ = λ e. other (e ∙ sym w) in
     omega arith
 
-pub rows-below-requires : goal.rows-below-requires
-rows-below-requires c =
-    let l = below_room c.args.places c.args.count c.requires.some c.requires.count-within c.if-count-places.false c.requires.places-within in
+pub rows_below-requires : goal.rows_below-requires
+rows_below-requires c =
+    let l = below_room c.args.places c.args.count c.requires.some c.requires.count_within c.if-count-places.false c.requires.places_within in
     let k = ap length (end_below c.args.places c.args.count c.args.exchanged c.requires.some l) in
     let h = c.requires.room in
-    record { places-within = c.requires.places-within; free = c.requires.free; room = omega (arith, turned_length c.args.exchanged (below (digits c.args.places c.args.count))) }
+    record { places_within = c.requires.places_within; free = c.requires.free; room = omega (arith, turned_length c.args.exchanged (below (digits c.args.places c.args.count))) }
 
-pub overflow-add-result : goal.overflow-add-result
-overflow-add-result c =
-    let k = end_length c.args.places c.args.count c.args.exchanged c.requires.some c.requires.count-within in
+pub overflow_add-result : goal.overflow_add-result
+overflow_add-result c =
+    let k = end_length c.args.places c.args.count c.args.exchanged c.requires.some c.requires.count_within in
     let h = c.requires.room in
     search rules
 
 pub returns : goal.returns
 returns c =
-    let e = end_length c.args.places c.args.count c.args.exchanged c.requires.some c.requires.count-within in
+    let e = end_length c.args.places c.args.count c.args.exchanged c.requires.some c.requires.count_within in
     let room = c.requires.room in
     record {
       rows = elim c.if-count-places.branch [
@@ -54,8 +54,8 @@ returns c =
             w.out-is ∙ sym (written_one c.args.out.now c.args.at c.args.front (omega arith)) ∙
             ap (written c.args.out.now c.args.at) (ap {B = List RowWords} (λ v. v ∷ []) (sym (plain_behind c.args.front c.args.places)) ∙ sym (ap (map (behind_front c.args.front)) all))
         | else-count-places w ↦
-            let l = below_room c.args.places c.args.count c.requires.some c.requires.count-within w.if-count-places.false c.requires.places-within in
-            w.out-is ∙ w.rows-below.ensures.rows ∙
+            let l = below_room c.args.places c.args.count c.requires.some c.requires.count_within w.if-count-places.false c.requires.places_within in
+            w.out-is ∙ w.rows_below.ensures.rows ∙
             ap (λ k. written c.args.out.now c.args.at (map (behind_front c.args.front) k)) (sym (end_below c.args.places c.args.count c.args.exchanged c.requires.some l))
       ];
       next = omega arith;

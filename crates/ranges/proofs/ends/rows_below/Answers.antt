@@ -13,17 +13,17 @@ loop-place-init c =
 pub extend-requires : goal.extend-requires
 extend-requires c =
     let f = free_place c.loop-place.place c.loop-place.front c.loop-place-test.true c.loop-place.invariant.2 in
-    record { place-within = omega arith; value-free = f.0; care-free = f.1 }
+    record { place_within = omega arith; value_free = f.0; care_free = f.1 }
 
 pub extend-front-requires : goal.extend-front-requires
 extend-front-requires c =
     let f = free_place c.loop-place.place c.loop-place.front c.loop-place-test.true c.loop-place.invariant.2 in
-    record { place-within = omega arith; value-free = f.0; care-free = f.1 }
+    record { place_within = omega arith; value_free = f.0; care_free = f.1 }
 
 pub extend-front-requires-else-above-place-eq1 : goal.extend-front-requires-else-above-place-eq1
 extend-front-requires-else-above-place-eq1 c =
     let f = free_place c.loop-place.place c.loop-place.front c.loop-place-test.true c.loop-place.invariant.2 in
-    record { place-within = omega arith; value-free = f.0; care-free = f.1 }
+    record { place_within = omega arith; value_free = f.0; care_free = f.1 }
 
 pub bounds-out-next : goal.bounds-out-next
 bounds-out-next c =

@@ -14,8 +14,8 @@ aligned n f t le h =
     let w = pow-add 2 (t - f) f in
     omega arith
 
-pub overflow-sub-care : goal.overflow-sub-care
-overflow-sub-care c =
+pub overflow_sub-care : goal.overflow_sub-care
+overflow_sub-care c =
     let a = one_shl c.args.from 64 (omega arith) in
     let b = one_shl c.args.to 64 (omega arith) in
     let m = pow_mono {i = c.args.from} {j = c.args.to} c.requires.order in
@@ -27,6 +27,6 @@ returns c =
     let b : (1 * 2 ^ c.args.to) % 18446744073709551616 ≡ 2 ^ c.args.to = one_shl c.args.to 64 (omega arith) in
     let m = pow_mono {i = c.args.from} {j = c.args.to} c.requires.order in
     let e = ap (λ (k : ℕ). c.args.number % k) a in
-    let room = aligned c.args.number c.args.from c.args.to c.requires.order c.requires.number-within in
+    let room = aligned c.args.number c.args.from c.args.to c.requires.order c.requires.number_within in
     let f = c.requires.free in
     record { value = omega arith; care = omega arith; free = (omega arith, omega arith) }

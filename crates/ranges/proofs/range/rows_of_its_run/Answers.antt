@@ -7,8 +7,8 @@ use Rattle.covers.proofs.WitnessCounts.{range_whole, range_proper}
 use Rattle.rows.proofs.Widths.{places_some, places_most}
 use Rattle.ranges.proofs.range.rows_of_its_run.Goals as goal
 
-pub overflow-add-last : goal.overflow-add-last
-overflow-add-last c =
+pub overflow_add-last : goal.overflow_add-last
+overflow_add-last c =
     let n = places_of c.args.width in
     let m = pow_mono {i = places_of c.args.width} {j = 32} (places_most c.args.width) in
     let h = c.requires.last_within in
@@ -18,8 +18,8 @@ overflow-add-last c =
 room : (n f l : ℕ) {k : ℕ} → 1 ≤ n → n ≤ 32 → 62 ≤ k → length (rows_of_range n f l) ≤ k
 room n f l a b h = let x = range_few n f l a in let y = most_few n b in omega arith
 
-pub rows-of-run-requires : goal.rows-of-run-requires
-rows-of-run-requires c =
+pub rows_of_run-requires : goal.rows_of_run-requires
+rows_of_run-requires c =
     let w = c.args.width in
     let p = c.places.ensures.value in
     let lim = c.limit.ensures.value in
@@ -30,7 +30,7 @@ rows-of-run-requires c =
     let same = ap₂ (λ (n l : ℕ). length (rows_of_run n 0 l)) p top in
     let k = ap length all in
     let r = room (places_of w) c.args.first c.args.last (places_some w) (places_most w) c.requires.room in
-    record { places-within = c.places.ensures.high-bound; first-within = omega arith; last_within = omega arith; room = omega arith }
+    record { places_within = c.places.ensures.high_bound; first_within = omega arith; last_within = omega arith; room = omega arith }
 
 pub returns-then-first-last : goal.returns-then-first-last
 returns-then-first-last c =
@@ -42,8 +42,8 @@ returns-then-first-last c =
     let same = ap₂ (λ (n l : ℕ). rows_of_run n 0 l) p top ∙ sym all in
     record { rows = c.rows_of_run.ensures.rows ∙ ap (λ l. written c.args.out.now 0 (map words_of l)) same; count = c.rows_of_run.ensures.count ∙ ap length same }
 
-pub rows-of-run-requires-2 : goal.rows-of-run-requires-2
-rows-of-run-requires-2 c =
+pub rows_of_run-requires-2 : goal.rows_of_run-requires-2
+rows_of_run-requires-2 c =
     let w = c.args.width in
     let p = c.places-2.ensures.value in
     let e = ap (λ (k : ℕ). 2 ^ k) p in
@@ -51,9 +51,9 @@ rows-of-run-requires-2 c =
     let same = ap (λ (n : ℕ). length (rows_of_run n c.args.first c.args.last)) p in
     let k = ap length all in
     let r = room (places_of w) c.args.first c.args.last (places_some w) (places_most w) c.requires.room in
-    let hf = c.requires.first-within in
+    let hf = c.requires.first_within in
     let hl = c.requires.last_within in
-    record { places-within = c.places-2.ensures.high-bound; first-within = omega arith; last_within = omega arith; room = omega arith }
+    record { places_within = c.places-2.ensures.high_bound; first_within = omega arith; last_within = omega arith; room = omega arith }
 
 pub returns : goal.returns
 returns c =
@@ -61,4 +61,4 @@ returns c =
     let p = c.places-2.ensures.value in
     let all = range_proper (places_of w) c.args.first c.args.last c.if-first-last.false in
     let same = ap (λ (n : ℕ). rows_of_run n c.args.first c.args.last) p ∙ sym all in
-    record { rows = c.rows-of-run-2.ensures.rows ∙ ap (λ l. written c.args.out.now 0 (map words_of l)) same; count = c.rows-of-run-2.ensures.count ∙ ap length same }
+    record { rows = c.rows_of_run-2.ensures.rows ∙ ap (λ l. written c.args.out.now 0 (map words_of l)) same; count = c.rows_of_run-2.ensures.count ∙ ap length same }

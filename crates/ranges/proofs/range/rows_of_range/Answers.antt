@@ -13,13 +13,13 @@ use Rattle.ranges.proofs.RunLists.{range_granted, rows_read}
 use Rattle.rows.proofs.Widths.{places_some, places_most}
 use Rattle.ranges.proofs.range.rows_of_range.Goals as goal
 
-pub slice-bounds-copy-to-start-end : goal.slice-bounds-copy-to-start-end
-slice-bounds-copy-to-start-end c =
+pub slice_bounds-copy_to_start-end : goal.slice_bounds-copy_to_start-end
+slice_bounds-copy_to_start-end c =
     let w = c.args.width in
     let x = range_few (places_of w) c.args.first c.args.last (places_some w) in
     let y = most_few (places_of w) (places_most w) in
-    let k = c.rows-of-its-run-count.ensures.count in
-    let few : c.rows-of-its-run-count.result ≤ 62 = omega arith in
+    let k = c.rows_of_its_run-count.ensures.count in
+    let few : c.rows_of_its_run-count.result ≤ 62 = omega arith in
     search rules
 
 -- the scratch from its start
@@ -35,19 +35,19 @@ returns c =
     let lim = c.limit-limit.ensures.value in
     let hf : f < 2 ^ n = omega arith in
     let hl : l < 2 ^ n = omega arith in
-    let k = c.rows-of-its-run-count.result in
-    let e = c.rows-of-its-run-count.ensures.count in
+    let k = c.rows_of_its_run-count.result in
+    let e = c.rows_of_its_run-count.ensures.count in
     let rows = rows_of_range n f l in
     let long = length-map rows words_of in
-    let part = ap (take (k - 0)) c.rows-of-its-run-count.ensures.rows ∙ start (map words_of rows) _ k (e ∙ sym long) in
-    let all : c.copy-to-start.new.memory ≡ map words_of rows ++ drop k c.args.memory.now =
-    c.copy-to-start.ensures.copied ∙ ap₂ (λ (x : List RowWords) (j : ℕ). x ++ drop j c.args.memory.now) part (ap length part ∙ long ∙ sym e) in
+    let part = ap (take (k - 0)) c.rows_of_its_run-count.ensures.rows ∙ start (map words_of rows) _ k (e ∙ sym long) in
+    let all : c.copy_to_start.new.memory ≡ map words_of rows ++ drop k c.args.memory.now =
+    c.copy_to_start.ensures.copied ∙ ap₂ (λ (x : List RowWords) (j : ℕ). x ++ drop j c.args.memory.now) part (ap length part ∙ long ∙ sym e) in
     let back = ap (rows_in n k) all ∙ rows_read n rows (drop k c.args.memory.now) k (range_long n f l) e in
     record {
       answer = ap Ok e ∙ sym (range_granted n f l (length c.args.memory.now) hf hl (omega arith));
       written = all;
-      untouched-when-refused = λ z. absurd (both_ways _ refl z);
-      by-the-rules = back;
+      untouched_when_refused = λ z. absurd (both_ways _ refl z);
+      by_the_rules = back;
       few = rw e (range_few n f l (places_some w));
       exact = subst (λ r. TakesPrecisely n r (in_range f l)) (sym back) (range_exact n f l hf hl);
       shortest = subst (Shortest n) (sym back) (range_shortest n f l hf hl);

@@ -30,34 +30,34 @@ free_at p front h f = let e : suc (p - 1) ≡ p = omega arith in subst (λ k. Fr
 
 pub extend-requires : goal.extend-requires
 extend-requires t c =
-    let K = known c.args.places c.args.first c.args.last c.requires.places-within c.requires.round c.requires.first-within in
+    let K = known c.args.places c.args.first c.args.last c.requires.places_within c.requires.round c.requires.first_within in
     let some = K.some in
     let f = free_place c.args.places c.args.front K.some c.requires.free in
-    record { place-within = omega arith; value-free = f.0; care-free = f.1 }
+    record { place_within = omega arith; value_free = f.0; care_free = f.1 }
 
 pub bounds-out-at : goal.bounds-out-at
 bounds-out-at t c =
-    let K = known c.args.places c.args.first c.args.last c.requires.places-within c.requires.round c.requires.first-within in
+    let K = known c.args.places c.args.first c.args.last c.requires.places_within c.requires.round c.requires.first_within in
     let k = round_low_length c.args.places c.args.first c.args.last _ K.some K.half c.requires.round c.if-first-half.true in
     let room = c.requires.room in
     omega arith
 
 pub rows-of-round-requires : goal.rows-of-round-requires
 rows-of-round-requires t c =
-    let K = known c.args.places c.args.first c.args.last c.requires.places-within c.requires.round c.requires.first-within in
+    let K = known c.args.places c.args.first c.args.last c.requires.places_within c.requires.round c.requires.first_within in
     let k = round_low_length c.args.places c.args.first c.args.last _ K.some K.half c.requires.round c.if-first-half.true in
     let h = K.half in
     let d = K.double in
     let some = K.some in
     let room = c.requires.room in
     let o = c.requires.round in
-    let hf = c.requires.first-within in
+    let hf = c.requires.first_within in
     let la = c.if-first-half.true in
     (search rules, (omega arith, (omega arith, (omega arith, (free_after c.args.front c.extend-then-first-half.result c.args.places _ c.extend-then-first-half.ensures.extended K.some c.requires.free, simp length-set (omega arith))))))
 
 pub returns-then-first-half : goal.returns-then-first-half
 returns-then-first-half t c =
-    let K = known c.args.places c.args.first c.args.last c.requires.places-within c.requires.round c.requires.first-within in
+    let K = known c.args.places c.args.first c.args.last c.requires.places_within c.requires.round c.requires.first_within in
     let k = round_low_length c.args.places c.args.first c.args.last _ K.some K.half c.requires.round c.if-first-half.true in
     let all = round_low_at c.args.places c.args.first c.args.last _ K.some K.half c.args.front c.extend.result c.extend-then-first-half.result c.requires.round c.if-first-half.true c.extend.ensures.extended c.extend-then-first-half.ensures.extended in
     let room = c.requires.room in
@@ -72,36 +72,36 @@ returns-then-first-half t c =
 
 pub extend-requires-then-last-half : goal.extend-requires-then-last-half
 extend-requires-then-last-half t c =
-    let K = known c.args.places c.args.first c.args.last c.requires.places-within c.requires.round c.requires.first-within in
+    let K = known c.args.places c.args.first c.args.last c.requires.places_within c.requires.round c.requires.first_within in
     let some = K.some in
     let f = free_place c.args.places c.args.front K.some c.requires.free in
-    record { place-within = omega arith; value-free = f.0; care-free = f.1 }
+    record { place_within = omega arith; value_free = f.0; care_free = f.1 }
 
 pub bounds-out-at-then-last-half : goal.bounds-out-at-then-last-half
 bounds-out-at-then-last-half t c =
-    let K = known c.args.places c.args.first c.args.last c.requires.places-within c.requires.round c.requires.first-within in
-    let k = round_high_length c.args.places c.args.first c.args.last _ K.some K.half c.requires.round c.if-last-half.true c.requires.first-within in
+    let K = known c.args.places c.args.first c.args.last c.requires.places_within c.requires.round c.requires.first_within in
+    let k = round_high_length c.args.places c.args.first c.args.last _ K.some K.half c.requires.round c.if-last-half.true c.requires.first_within in
     let room = c.requires.room in
     omega arith
 
 pub rows-of-round-requires-then-last-half : goal.rows-of-round-requires-then-last-half
 rows-of-round-requires-then-last-half t c =
-    let K = known c.args.places c.args.first c.args.last c.requires.places-within c.requires.round c.requires.first-within in
-    let k = round_high_length c.args.places c.args.first c.args.last _ K.some K.half c.requires.round c.if-last-half.true c.requires.first-within in
+    let K = known c.args.places c.args.first c.args.last c.requires.places_within c.requires.round c.requires.first_within in
+    let k = round_high_length c.args.places c.args.first c.args.last _ K.some K.half c.requires.round c.if-last-half.true c.requires.first_within in
     let h = K.half in
     let d = K.double in
     let some = K.some in
     let room = c.requires.room in
     let o = c.requires.round in
-    let hf = c.requires.first-within in
+    let hf = c.requires.first_within in
     let lb = c.if-last-half.true in
     (search rules, (omega arith, (omega arith, (omega arith, (free_after c.args.front c.extend-then-last-half-2.result c.args.places _ c.extend-then-last-half-2.ensures.extended K.some c.requires.free, simp length-set (omega arith))))))
 
 pub returns-then-last-half : goal.returns-then-last-half
 returns-then-last-half t c =
-    let K = known c.args.places c.args.first c.args.last c.requires.places-within c.requires.round c.requires.first-within in
-    let k = round_high_length c.args.places c.args.first c.args.last _ K.some K.half c.requires.round c.if-last-half.true c.requires.first-within in
-    let all = round_high_at c.args.places c.args.first c.args.last _ K.some K.half c.args.front c.extend-then-last-half.result c.extend-then-last-half-2.result c.requires.round c.if-last-half.true c.requires.first-within c.extend-then-last-half.ensures.extended c.extend-then-last-half-2.ensures.extended in
+    let K = known c.args.places c.args.first c.args.last c.requires.places_within c.requires.round c.requires.first_within in
+    let k = round_high_length c.args.places c.args.first c.args.last _ K.some K.half c.requires.round c.if-last-half.true c.requires.first_within in
+    let all = round_high_at c.args.places c.args.first c.args.last _ K.some K.half c.args.front c.extend-then-last-half.result c.extend-then-last-half-2.result c.requires.round c.if-last-half.true c.requires.first_within c.extend-then-last-half.ensures.extended c.extend-then-last-half-2.ensures.extended in
     let room = c.requires.room in
     let after = c.rows-of-round-then-last-half.ensures.next in
     record {
@@ -114,26 +114,26 @@ returns-then-last-half t c =
 
 pub behind-requires : goal.behind-requires
 behind-requires t c =
-    let K = known c.args.places c.args.first c.args.last c.requires.places-within c.requires.round c.requires.first-within in
+    let K = known c.args.places c.args.first c.args.last c.requires.places_within c.requires.round c.requires.first_within in
     let some = K.some in
-    record { place-within = omega arith; free = free_at c.args.places c.args.front K.some c.requires.free }
+    record { place_within = omega arith; free = free_at c.args.places c.args.front K.some c.requires.free }
 
 pub rows-across-requires : goal.rows-across-requires
 rows-across-requires t c =
-    let K = known c.args.places c.args.first c.args.last c.requires.places-within c.requires.round c.requires.first-within in
-    let k = round_across_length c.args.places c.args.first c.args.last _ K.some K.half c.if-first-half.false c.requires.first-within c.if-last-half.false in
+    let K = known c.args.places c.args.first c.args.last c.requires.places_within c.requires.round c.requires.first_within in
+    let k = round_across_length c.args.places c.args.first c.args.last _ K.some K.half c.if-first-half.false c.requires.first_within c.if-last-half.false in
     let h = K.half in
     let d = K.double in
     let some = K.some in
     let room = c.requires.room in
-    let hf = c.requires.first-within in
+    let hf = c.requires.first_within in
     let lb = c.if-last-half.false in
-    record { places-within = omega arith; first-within = omega arith; last_within = omega arith; free = c.behind.ensures.free; room = omega arith }
+    record { places_within = omega arith; first_within = omega arith; last_within = omega arith; free = c.behind.ensures.free; room = omega arith }
 
 pub returns : goal.returns
 returns t c =
-    let K = known c.args.places c.args.first c.args.last c.requires.places-within c.requires.round c.requires.first-within in
-    let k = round_across_length c.args.places c.args.first c.args.last _ K.some K.half c.if-first-half.false c.requires.first-within c.if-last-half.false in
-    let all = round_across_at c.args.places c.args.first c.args.last _ K.some K.half c.args.front c.behind.result c.if-first-half.false c.requires.first-within c.if-last-half.false c.behind.ensures.begun in
+    let K = known c.args.places c.args.first c.args.last c.requires.places_within c.requires.round c.requires.first_within in
+    let k = round_across_length c.args.places c.args.first c.args.last _ K.some K.half c.if-first-half.false c.requires.first_within c.if-last-half.false in
+    let all = round_across_at c.args.places c.args.first c.args.last _ K.some K.half c.args.front c.behind.result c.if-first-half.false c.requires.first_within c.if-last-half.false c.behind.ensures.begun in
     let after = c.rows_across.ensures.next in
     record { rows = c.rows_across.ensures.rows ∙ ap (written c.args.out.now c.args.at) (sym all); next = omega arith }

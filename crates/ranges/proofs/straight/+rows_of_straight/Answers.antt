@@ -14,7 +14,7 @@ pub rows-of-straight-requires : goal.rows-of-straight-requires
 rows-of-straight-requires t c =
     let q = c.places-apart-rest.result in
     let s : (1 * 2 ^ q) % 18446744073709551616 ≡ 2 ^ q = one_shl q 64 (omega arith) in
-    let same = c.places-apart-rest.ensures.alike-before in
+    let same = c.places-apart-rest.ensures.alike_before in
     let low = ap (λ (k : ℕ). c.args.first % k) s in
     let high = ap (λ (k : ℕ). c.args.last % k) s in
     let o = order_left q c.args.first c.args.last c.requires.ordered same in
@@ -28,7 +28,7 @@ pub returns-then-rest-places : goal.returns-then-rest-places
 returns-then-rest-places t c =
     let q = c.places-apart-rest.result in
     let s : (1 * 2 ^ q) % 18446744073709551616 ≡ 2 ^ q = one_shl q 64 (omega arith) in
-    let same = c.places-apart-rest.ensures.alike-before in
+    let same = c.places-apart-rest.ensures.alike_before in
     let low = ap (λ (k : ℕ). c.args.first % k) s in
     let high = ap (λ (k : ℕ). c.args.last % k) s in
     let le : q ≤ c.args.places = omega arith in
@@ -88,18 +88,18 @@ free_at p front h f = let e : suc (p - 1) ≡ p = omega arith in subst (λ k. Fr
 pub behind-requires : goal.behind-requires
 behind-requires t c =
     let some : 0 < c.args.places = omega arith in
-    record { place-within = omega arith; free = free_at c.args.places c.args.front some c.requires.free }
+    record { place_within = omega arith; free = free_at c.args.places c.args.front some c.requires.free }
 
 pub overflow-sub-last : goal.overflow-sub-last
 overflow-sub-last t c =
-    let K = known c.args.places c.places-apart-rest.result c.args.first c.args.last c.requires.places-within (omega arith) c.if-rest-places.false c.places-apart-rest.ensures.apart c.requires.ordered c.requires.last_within in
+    let K = known c.args.places c.places-apart-rest.result c.args.first c.args.last c.requires.places_within (omega arith) c.if-rest-places.false c.places-apart-rest.ensures.apart c.requires.ordered c.requires.last_within in
     let h = K.half in
     let l = K.high in
     omega arith
 
 pub rows-across-requires : goal.rows-across-requires
 rows-across-requires t c =
-    let K = known c.args.places c.places-apart-rest.result c.args.first c.args.last c.requires.places-within (omega arith) c.if-rest-places.false c.places-apart-rest.ensures.apart c.requires.ordered c.requires.last_within in
+    let K = known c.args.places c.places-apart-rest.result c.args.first c.args.last c.requires.places_within (omega arith) c.if-rest-places.false c.places-apart-rest.ensures.apart c.requires.ordered c.requires.last_within in
     let h = K.half in
     let d = K.double in
     let low = K.low in
@@ -108,11 +108,11 @@ rows-across-requires t c =
     let some : 0 < c.args.places = omega arith in
     let k = ap length (across_at c.args.places c.args.first c.args.last _ some h (omega arith) (omega arith)) in
     let room = c.requires.room in
-    record { places-within = omega arith; first-within = omega arith; last_within = omega arith; free = c.behind.ensures.free; room = omega arith }
+    record { places_within = omega arith; first_within = omega arith; last_within = omega arith; free = c.behind.ensures.free; room = omega arith }
 
 pub returns : goal.returns
 returns t c =
-    let K = known c.args.places c.places-apart-rest.result c.args.first c.args.last c.requires.places-within (omega arith) c.if-rest-places.false c.places-apart-rest.ensures.apart c.requires.ordered c.requires.last_within in
+    let K = known c.args.places c.places-apart-rest.result c.args.first c.args.last c.requires.places_within (omega arith) c.if-rest-places.false c.places-apart-rest.ensures.apart c.requires.ordered c.requires.last_within in
     let h = K.half in
     let low = K.low in
     let high = K.high in

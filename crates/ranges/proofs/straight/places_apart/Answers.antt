@@ -18,4 +18,4 @@ lengths a b ha hb = go (leading_length 64 (bit_xor a b) (xor_lt 64 a b ha hb))
 pub returns : goal.returns
 returns c =
     let l = lengths c.args.first c.args.last (omega arith) (omega arith) in
-    record { bound = omega arith; alike-before = same_before c.args.first c.args.last _ l.0; apart = l.1 }
+    record { bound = omega arith; alike_before = same_before c.args.first c.args.last _ l.0; apart = l.1 }

@@ -16,15 +16,15 @@ use Rattle.ranges.proofs.RunLists.{range_granted}
 use Rattle.rows.proofs.Widths.{places_some, places_most}
 use Rattle.ranges.proofs.witness.witness_of_range.Goals as goal
 
-pub slice-bounds-copy-to-start-end : goal.slice-bounds-copy-to-start-end
-slice-bounds-copy-to-start-end c =
+pub slice_bounds-copy_to_start-end : goal.slice_bounds-copy_to_start-end
+slice_bounds-copy_to_start-end c =
     let w = c.args.width in
     let lim = c.limit-limit.ensures.value in
     let x = range_few (places_of w) c.args.first c.args.last (places_some w) in
     let y = most_few (places_of w) (places_most w) in
     let count = range_counted (places_of w) c.args.first c.args.last (omega arith) (omega arith) in
-    let k = c.write-numbers-count.ensures.count in
-    let few : c.write-numbers-count.result ≤ 62 = omega arith in
+    let k = c.write_numbers-count.ensures.count in
+    let few : c.write_numbers-count.result ≤ 62 = omega arith in
     search rules
 
 -- memory too short for the numbers
@@ -40,12 +40,12 @@ returns-then-count-memory c =
     let lim = c.limit-limit.ensures.value in
     let hf : f < 2 ^ n = omega arith in
     let hl : l < 2 ^ n = omega arith in
-    let e = c.write-numbers-count.ensures.count in
+    let e = c.write_numbers-count.ensures.count in
     let count = range_counted n f l hf hl in
     record {
       answer = sym (too_short n f l (length c.args.memory.now) hf hl (omega arith));
-      numbers-left-free = tt;
-      untouched-when-refused = λ z. refl;
+      numbers_left_free = tt;
+      untouched_when_refused = λ z. refl;
       as_many = tt;
       members = tt;
       parted = tt;
@@ -65,19 +65,19 @@ returns c =
     let lim = c.limit-limit.ensures.value in
     let hf : f < 2 ^ n = omega arith in
     let hl : l < 2 ^ n = omega arith in
-    let k = c.write-numbers-count.result in
-    let e = c.write-numbers-count.ensures.count in
+    let k = c.write_numbers-count.result in
+    let e = c.write_numbers-count.ensures.count in
     let count = range_counted n f l hf hl in
     let numbers = numbers_of_range n f l in
-    let part = ap (take (k - 0)) c.write-numbers-count.ensures.numbers ∙ start numbers _ k e in
-    let all : c.copy-to-start.new.memory ≡ numbers ++ drop k c.args.memory.now =
-    c.copy-to-start.ensures.copied ∙ ap₂ (λ (x : List ℕ) (j : ℕ). x ++ drop j c.args.memory.now) part (ap length part ∙ sym e) in
-    let back : take k c.copy-to-start.new.memory ≡ numbers = ap (take k) all ∙ take_at numbers (drop k c.args.memory.now) k (sym e) in
+    let part = ap (take (k - 0)) c.write_numbers-count.ensures.numbers ∙ start numbers _ k e in
+    let all : c.copy_to_start.new.memory ≡ numbers ++ drop k c.args.memory.now =
+    c.copy_to_start.ensures.copied ∙ ap₂ (λ (x : List ℕ) (j : ℕ). x ++ drop j c.args.memory.now) part (ap length part ∙ sym e) in
+    let back : take k c.copy_to_start.new.memory ≡ numbers = ap (take k) all ∙ take_at numbers (drop k c.args.memory.now) k (sym e) in
     let W = subst (Witness n (in_range f l)) (sym back) (numbers_witness n f l hf hl) in
     record {
       answer = ap Ok (e ∙ count) ∙ sym (range_granted n f l (length c.args.memory.now) hf hl (omega arith));
-      numbers-left-free = (numbers, sym e, all);
-      untouched-when-refused = λ z. absurd (both_ways _ refl z);
+      numbers_left_free = (numbers, sym e, all);
+      untouched_when_refused = λ z. absurd (both_ways _ refl z);
       as_many = e ∙ count;
       members = W.members;
       parted = W.parted;

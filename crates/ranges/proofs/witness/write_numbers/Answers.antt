@@ -8,11 +8,11 @@ use Rattle.rows.proofs.Writing.{written_one}
 use Rattle.ranges.proofs.BesideLists.{range_one, range_beside}
 use Rattle.ranges.proofs.witness.write_numbers.Goals as goal
 
-pub overflow-add-before : goal.overflow-add-before
-overflow-add-before c =
+pub overflow_add-before : goal.overflow_add-before
+overflow_add-before c =
     let m = pow_mono {i = places_of c.args.width} {j = 32} (places_most c.args.width) in
     let lim = c.limit-limit.ensures.value in
-    let h = c.requires.first-within in
+    let h = c.requires.first_within in
     omega arith
 
 pub returns-then-after-first : goal.returns-then-after-first
@@ -25,8 +25,8 @@ returns-then-after-first c =
       count = sym (ap length one);
     }
 
-pub write-beside-requires : goal.write-beside-requires
-write-beside-requires c =
+pub write_beside-requires : goal.write_beside-requires
+write_beside-requires c =
     let w = c.args.width in
     let n = places_of c.args.width in
     let lim = c.limit-limit.ensures.value in
@@ -36,19 +36,19 @@ write-beside-requires c =
     let b = mod-lt (c.args.first + c.limit-limit.result - 1) some in
     let a = mod-lt (c.args.last + 1) some in
     let k = ap length (range_beside n c.args.first c.args.last c.places.result c.limit-limit.result c.places.ensures.value lim c.if-after-first.false) in
-    let count = range_counted n c.args.first c.args.last c.requires.first-within c.requires.last_within in
+    let count = range_counted n c.args.first c.args.last c.requires.first_within c.requires.last_within in
     let x = range_few n c.args.first c.args.last (places_some w) in
     let y = most_few n (places_most w) in
     let room = c.requires.room in
-    record { places-within = c.places.ensures.high-bound; before-within = omega arith; after-within = omega arith; room = omega arith }
+    record { places_within = c.places.ensures.high_bound; before_within = omega arith; after_within = omega arith; room = omega arith }
 
 pub returns : goal.returns
 returns c =
     let n = places_of c.args.width in
     let all = range_beside n c.args.first c.args.last c.places.result c.limit-limit.result c.places.ensures.value c.limit-limit.ensures.value c.if-after-first.false in
     let k = ap length all in
-    let after = c.write-beside.ensures.next in
+    let after = c.write_beside.ensures.next in
     record {
-      numbers = c.write-beside.ensures.numbers ∙ ap (written c.args.out.now 0) (sym all);
+      numbers = c.write_beside.ensures.numbers ∙ ap (written c.args.out.now 0) (sym all);
       count = omega arith;
     }

@@ -9,21 +9,21 @@ use Rattle.rows.specs.Widths.{places_of}
 use Rattle.rows.proofs.Widths.{places_most}
 use Rattle.rows.proofs.narrowest.narrowest_row.Goals as goal
 
-pub overflow-sub-care-2 : goal.overflow-sub-care-2
-overflow-sub-care-2 c =
+pub overflow_sub-care-2 : goal.overflow_sub-care-2
+overflow_sub-care-2 c =
     let n = places_of c.args.width in
     let lim = c.limit-limit.ensures.value in
     let x = xor_lt (places_of c.args.width) c.args.first c.args.second (omega arith) (omega arith) in
     omega arith
 
-pub overflow-cast-first : goal.overflow-cast-first
-overflow-cast-first c =
+pub overflow_cast-first : goal.overflow_cast-first
+overflow_cast-first c =
     let lim = c.limit-limit.ensures.value in
     let m = pow_mono {i = places_of c.args.width} {j = 32} (places_most c.args.width) in
     omega arith
 
-pub overflow-cast-care : goal.overflow-cast-care
-overflow-cast-care c =
+pub overflow_cast-care : goal.overflow_cast-care
+overflow_cast-care c =
     let lim = c.limit-limit.ensures.value in
     let m = pow_mono {i = places_of c.args.width} {j = 32} (places_most c.args.width) in
     let p = pow_pos (places_of c.args.width) in

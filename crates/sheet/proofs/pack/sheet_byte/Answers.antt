@@ -12,23 +12,23 @@ few_bytes : (width count : ℕ) → width ≤ 32 → count ≤ 120 → size_of_s
 unfolding size_of_sheet
 few_bytes width count h k = let m = mul-le count width 120 32 k h in omega arith
 
-module _ (c : goal.In-default) where
+module _ (c : goal.In_default) where
   wide : places_of c.args.width ≤ 32
-  wide = let e = c.places-places.ensures.value in let h = c.places-places.ensures.high-bound in omega arith
+  wide = let e = c.places-places.ensures.value in let h = c.places-places.ensures.high_bound in omega arith
 
   near : c.args.index < 962
   near = let s = few_bytes (places_of c.args.width) (length c.args.rows.now) wide c.requires.few in let i = c.requires.inside in omega arith
 
-pub overflow-mul-index : goal.overflow-mul-index
-overflow-mul-index c = let n = near c in omega arith
+pub overflow_mul-index : goal.overflow_mul-index
+overflow_mul-index c = let n = near c in omega arith
 
-pub byte-of-four-requires : goal.byte-of-four-requires
-byte-of-four-requires c = let n = near c in record { low = c.places-places.ensures.low-bound; high = c.places-places.ensures.high-bound; near = omega arith }
+pub byte_of_four-requires : goal.byte_of_four-requires
+byte_of_four-requires c = let n = near c in record { low = c.places-places.ensures.low_bound; high = c.places-places.ensures.high_bound; near = omega arith }
 
 pub returns-in-0 : goal.returns-in-0
 returns-in-0 c =
     let e = c.places-places.ensures.value in
-    let h = c.places-places.ensures.high-bound in
+    let h = c.places-places.ensures.high_bound in
     record {
       value =
           ap (λ (k : ℕ). (k - 1) * 8 + length c.args.rows.now / 16) e ∙
@@ -38,15 +38,15 @@ returns-in-0 c =
 pub returns-in-1 : goal.returns-in-1
 returns-in-1 c =
     let e = c.places-places.ensures.value in
-    let h = c.places-places.ensures.high-bound in
+    let h = c.places-places.ensures.high_bound in
     record {
       value = sym (ap (λ (k : ℕ). get_or (sheet_of (places_of c.args.width) c.args.rows.now) k 0) c.in-1.is ∙ sheet_1 (places_of c.args.width) c.args.rows.now (omega arith) c.requires.few);
     }
 
-pub returns-in-default : goal.returns-in-default
-returns-in-default c =
+pub returns-in_default : goal.returns-in_default
+returns-in_default c =
     let e = c.places-places.ensures.value in
-    let h = c.places-places.ensures.high-bound in
+    let h = c.places-places.ensures.high_bound in
     record {
       value =
           c.byte_of_four.ensures.value ∙ ap (λ (n : ℕ). byte_from (all_symbols (rows_of n c.args.rows.now)) (4 * (c.args.index - 2))) e ∙

@@ -28,8 +28,8 @@ returns-in-1 c =
 other : (k : ℕ) → (k ≡ 0 → ⊥) → (k ≡ 1 → ⊥) → symbol_coded k ≡ Dash
 other k a b = rw (ne_eqb k 0 a, ne_eqb k 1 b) refl
 
-pub returns-in-default : goal.returns-in-default
-returns-in-default c =
+pub returns-in_default : goal.returns-in_default
+returns-in_default c =
     record {
       words = λ start e.
           let row = c.args.row in

@@ -17,20 +17,20 @@ use Rattle.sheet.proofs.ReadFaults.{fault_header, fault_many, fault_missing, fau
 use Rattle.sheet.proofs.Rows.{no_words}
 use Rattle.sheet.proofs.read.read.Goals as goal
 
-pub returns-in-default : goal.returns-in-default
-returns-in-default c =
+pub returns-in_default : goal.returns-in_default
+returns-in_default c =
     let f = fault_header c.args.bytes.now (length c.args.memory.now) (omega (arith, ltb-true)) in
     record { refusal = sym f; rows = refl; accepts = never_refused c.args.bytes.now (length c.args.memory.now) _ f }
 
-pub returns-then-size-gt-MOST-ROWS : goal.returns-then-size-gt-MOST-ROWS
-returns-then-size-gt-MOST-ROWS c =
+pub returns-then-size-gt-MOST_ROWS : goal.returns-then-size-gt-MOST_ROWS
+returns-then-size-gt-MOST_ROWS c =
     let sheet = c.args.bytes.now in
     let room = length c.args.memory.now in
     let o =
     opened sheet (places_of c.header-size.result.width) c.header-size.result.count (λ i. omega (arith, c.type-inv.bytes i)) (omega (arith, ltb-false))
     c.header-size.ensures.width c.header-size.ensures.count in
     let k = o.count_is in
-    let t = c.if-size-gt-MOST-ROWS.true in
+    let t = c.if-size-gt-MOST_ROWS.true in
     let f = fault_many sheet room o.two (omega arith) in
     record { refusal = sym f; rows = refl; accepts = never_refused sheet room _ f }
 
@@ -49,14 +49,14 @@ returns-then-body-needed c =
     c.header-size.ensures.count in
     let k = o.count_is in
     let l = o.length_is in
-    let few = c.if-size-gt-MOST-ROWS.false in
+    let few = c.if-size-gt-MOST_ROWS.false in
     let t = c.if-body-needed.true in
-    let s = asked sheet (take (length sheet - 2) (drop 2 sheet)) places count c.div-ceil-needed.result o c.div-ceil-needed.ensures in
+    let s = asked sheet (take (length sheet - 2) (drop 2 sheet)) places count c.div_ceil-needed.result o c.div_ceil-needed.ensures in
     let f = fault_missing sheet room o.two (omega arith) (omega arith) in
     record { refusal = sym f; rows = refl; accepts = never_refused sheet room _ f }
 
-pub returns-then-any-unknown : goal.returns-then-any-unknown
-returns-then-any-unknown c =
+pub returns-then-any_unknown : goal.returns-then-any_unknown
+returns-then-any_unknown c =
     let sheet = c.args.bytes.now in
     let room = length c.args.memory.now in
     let places = c.places-places.result in
@@ -66,14 +66,14 @@ returns-then-any-unknown c =
     c.header-size.ensures.count in
     let k = o.count_is in
     let l = o.length_is in
-    let few = c.if-size-gt-MOST-ROWS.false in
+    let few = c.if-size-gt-MOST_ROWS.false in
     let t = c.if-body-needed.false in
-    let s = asked sheet (take (length sheet - 2) (drop 2 sheet)) places count c.div-ceil-needed.result o c.div-ceil-needed.ensures in
-    let f = fault_unknown sheet room o.two (omega arith) (omega arith) (ap unknown_code o.symbols_are ∙ sym c.if-any-unknown.ensures.value) in
+    let s = asked sheet (take (length sheet - 2) (drop 2 sheet)) places count c.div_ceil-needed.result o c.div_ceil-needed.ensures in
+    let f = fault_unknown sheet room o.two (omega arith) (omega arith) (ap unknown_code o.symbols_are ∙ sym c.if-any_unknown.ensures.value) in
     record { refusal = sym f; rows = refl; accepts = never_refused sheet room _ f }
 
-pub returns-then-left-over-gt0 : goal.returns-then-left-over-gt0
-returns-then-left-over-gt0 c =
+pub returns-then-left_over-gt0 : goal.returns-then-left_over-gt0
+returns-then-left_over-gt0 c =
     let sheet = c.args.bytes.now in
     let room = length c.args.memory.now in
     let places = c.places-places.result in
@@ -83,26 +83,26 @@ returns-then-left-over-gt0 c =
     c.header-size.ensures.count in
     let k = o.count_is in
     let l = o.length_is in
-    let few = c.if-size-gt-MOST-ROWS.false in
-    let t = c.if-left-over-gt0.true in
-    let s = asked sheet (take (length sheet - 2) (drop 2 sheet)) places count c.div-ceil-needed.result o c.div-ceil-needed.ensures in
+    let few = c.if-size-gt-MOST_ROWS.false in
+    let t = c.if-left_over-gt0.true in
+    let s = asked sheet (take (length sheet - 2) (drop 2 sheet)) places count c.div_ceil-needed.result o c.div_ceil-needed.ensures in
     let size = size_of_sheet (width_field sheet) (count_field sheet) in
     let f =
-    fault_unclean sheet room o.two (omega arith) (omega arith) (ap unknown_code o.symbols_are ∙ sym c.if-any-unknown.ensures.value)
+    fault_unclean sheet room o.two (omega arith) (omega arith) (ap unknown_code o.symbols_are ∙ sym c.if-any_unknown.ensures.value)
     (or_right (not (all_zeros (zero_bits sheet))) (ltb size (length sheet)) (lt-ltb size (length sheet) (omega arith))) in
     record { refusal = sym f; rows = refl; accepts = never_refused sheet room _ f }
 
-pub zeros-clear-requires : goal.zeros-clear-requires
-zeros-clear-requires c =
-    let few = c.if-size-gt-MOST-ROWS.false in
-    let h = c.places-places.ensures.high-bound in
+pub zeros_clear-requires : goal.zeros_clear-requires
+zeros_clear-requires c =
+    let few = c.if-size-gt-MOST_ROWS.false in
+    let h = c.places-places.ensures.high_bound in
     let m = mul-le c.header-size.result.count c.places-places.result 120 32 few h in
-    let d = c.div-ceil-needed.ensures in
-    let t = c.if-left-over-gt0.false in
+    let d = c.div_ceil-needed.ensures in
+    let t = c.if-left_over-gt0.false in
     record { short = omega arith }
 
-pub returns-then-not-zeros-clear : goal.returns-then-not-zeros-clear
-returns-then-not-zeros-clear c =
+pub returns-then-not-zeros_clear : goal.returns-then-not-zeros_clear
+returns-then-not-zeros_clear c =
     let sheet = c.args.bytes.now in
     let room = length c.args.memory.now in
     let places = c.places-places.result in
@@ -112,13 +112,13 @@ returns-then-not-zeros-clear c =
     c.header-size.ensures.count in
     let k = o.count_is in
     let l = o.length_is in
-    let few = c.if-size-gt-MOST-ROWS.false in
+    let few = c.if-size-gt-MOST_ROWS.false in
     let t = c.if-body-needed.false in
-    let s = asked sheet (take (length sheet - 2) (drop 2 sheet)) places count c.div-ceil-needed.result o c.div-ceil-needed.ensures in
+    let s = asked sheet (take (length sheet - 2) (drop 2 sheet)) places count c.div_ceil-needed.result o c.div_ceil-needed.ensures in
     let size = size_of_sheet (width_field sheet) (count_field sheet) in
-    let z : all_zeros (zero_bits sheet) ≡ false = ap all_zeros o.zeros_are ∙ sym c.if-not-zeros-clear.ensures.value in
+    let z : all_zeros (zero_bits sheet) ≡ false = ap all_zeros o.zeros_are ∙ sym c.if-not-zeros_clear.ensures.value in
     let f =
-    fault_unclean sheet room o.two (omega arith) (omega arith) (ap unknown_code o.symbols_are ∙ sym c.if-any-unknown.ensures.value)
+    fault_unclean sheet room o.two (omega arith) (omega arith) (ap unknown_code o.symbols_are ∙ sym c.if-any_unknown.ensures.value)
     (or_left (not (all_zeros (zero_bits sheet))) (ltb size (length sheet)) (ap not z)) in
     record { refusal = sym f; rows = refl; accepts = never_refused sheet room _ f }
 
@@ -133,27 +133,27 @@ returns-then-memory-size c =
     c.header-size.ensures.count in
     let k = o.count_is in
     let l = o.length_is in
-    let few = c.if-size-gt-MOST-ROWS.false in
+    let few = c.if-size-gt-MOST_ROWS.false in
     let t = c.if-body-needed.false in
-    let t2 = c.if-left-over-gt0.false in
+    let t2 = c.if-left_over-gt0.false in
     let r = c.if-memory-size.true in
-    let s = asked sheet (take (length sheet - 2) (drop 2 sheet)) places count c.div-ceil-needed.result o c.div-ceil-needed.ensures in
-    let z : all_zeros (zero_bits sheet) ≡ true = ap all_zeros o.zeros_are ∙ sym c.if-not-zeros-clear.ensures.value in
+    let s = asked sheet (take (length sheet - 2) (drop 2 sheet)) places count c.div_ceil-needed.result o c.div_ceil-needed.ensures in
+    let z : all_zeros (zero_bits sheet) ≡ true = ap all_zeros o.zeros_are ∙ sym c.if-not-zeros_clear.ensures.value in
     let f =
-    fault_room sheet room o.two (omega arith) (omega arith) (ap unknown_code o.symbols_are ∙ sym c.if-any-unknown.ensures.value) z (omega arith) (omega arith) in
+    fault_room sheet room o.two (omega arith) (omega arith) (ap unknown_code o.symbols_are ∙ sym c.if-any_unknown.ensures.value) z (omega arith) (omega arith) in
     record { refusal = sym f; rows = refl; accepts = never_refused sheet room _ f }
 
-pub row-at-requires : goal.row-at-requires
-row-at-requires c =
+pub row_at-requires : goal.row_at-requires
+row_at-requires c =
     let places = c.places-places.result in
     let count = c.header-size.result.count in
     let row = c.loop-row.row in
-    let few = c.if-size-gt-MOST-ROWS.false in
-    let h = c.places-places.ensures.high-bound in
+    let few = c.if-size-gt-MOST_ROWS.false in
+    let h = c.places-places.ensures.high_bound in
     let m = mul-le count places 120 32 few h in
     let i = c.loop-row-test.true in
     let p : row * places + places ≤ count * places = let a = mul-le (suc row) places count places i (omega arith) in let b = suc-mul row places in omega arith in
-    let d = c.div-ceil-needed.ensures in
+    let d = c.div_ceil-needed.ensures in
     let t = c.if-body-needed.false in
     record { narrow = h; near = omega arith; inside = omega arith }
 
@@ -170,7 +170,7 @@ loop-row-preserved c =
     let i = c.loop-row-test.true in
     let r = c.if-memory-size.false in
     let n = rows_count sheet body places count o in
-    ap₂ (λ (m : List RowWords) (w : RowWords). set m row w) c.loop-row.invariant (c.row-at.ensures.words ∙ sym (row_read sheet body places count o row i)) ∙
+    ap₂ (λ (m : List RowWords) (w : RowWords). set m row w) c.loop-row.invariant (c.row_at.ensures.words ∙ sym (row_read sheet body places count o row i)) ∙
     copied_more (map words_of (rows_in sheet)) c.args.memory.now row no_words (omega arith) (omega arith)
 
 pub returns : goal.returns
@@ -186,14 +186,14 @@ returns c =
     c.header-size.ensures.count in
     let k = o.count_is in
     let l = o.length_is in
-    let few = c.if-size-gt-MOST-ROWS.false in
+    let few = c.if-size-gt-MOST_ROWS.false in
     let t = c.if-body-needed.false in
-    let t2 = c.if-left-over-gt0.false in
+    let t2 = c.if-left_over-gt0.false in
     let r = c.if-memory-size.false in
     let i = c.loop-row-test.false in
-    let s = asked sheet body places count c.div-ceil-needed.result o c.div-ceil-needed.ensures in
-    let z : all_zeros (zero_bits sheet) ≡ true = ap all_zeros o.zeros_are ∙ sym c.if-not-zeros-clear.ensures.value in
-    let u : unknown_code (symbol_bits sheet) ≡ false = ap unknown_code o.symbols_are ∙ sym c.if-any-unknown.ensures.value in
+    let s = asked sheet body places count c.div_ceil-needed.result o c.div_ceil-needed.ensures in
+    let z : all_zeros (zero_bits sheet) ≡ true = ap all_zeros o.zeros_are ∙ sym c.if-not-zeros_clear.ensures.value in
+    let u : unknown_code (symbol_bits sheet) ≡ false = ap unknown_code o.symbols_are ∙ sym c.if-any_unknown.ensures.value in
     let is : Sheet (width_field sheet) (rows_in sheet) sheet = reading_stands sheet (all_bytes sheet (λ i. omega (arith, c.type-inv.bytes i))) o.two (omega arith) (omega arith) u z in
     let wide : width_field sheet ≡ places_of c.header-size.result.width = o.width_is ∙ c.places-places.ensures.value in
     let n = rows_count sheet body places count o in

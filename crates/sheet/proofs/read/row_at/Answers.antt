@@ -37,7 +37,7 @@ extended-row-requires c =
     let ec : c.loop-index.row.care ≡ care_word (take k all) = ap (λ (w : RowWords). w.care) c.loop-index.invariant in
     let fv = value_word_fits (take k all) in
     let fc = care_word_fits (take k all) in
-    record { value_room = omega arith; care-room = omega arith }
+    record { value_room = omega arith; care_room = omega arith }
 
 pub loop-index-preserved : goal.loop-index-preserved
 loop-index-preserved c =
@@ -51,8 +51,8 @@ loop-index-preserved c =
     let m = enough c.args.body.now c.args.first c.args.places inside in
     let next : i + 1 - c.args.first ≡ k + 1 = omega arith in
     let place : c.args.first + k ≡ i = omega arith in
-    let there : symbol_coded c.code-in-bytes.result ≡ get_or all k Zero =
-    ap symbol_coded c.code-in-bytes.ensures.value ∙ sym (get_or-drop c.args.first (symbols_of u) k Zero ∙ ap (λ (x : ℕ). get_or (symbols_of u) x Zero) place ∙ symbol_there u i (omega arith)) in
+    let there : symbol_coded c.code_in_bytes.result ≡ get_or all k Zero =
+    ap symbol_coded c.code_in_bytes.ensures.value ∙ sym (get_or-drop c.args.first (symbols_of u) k Zero ∙ ap (λ (x : ℕ). get_or (symbols_of u) x Zero) place ∙ symbol_there u i (omega arith)) in
     c.extended-row.ensures.words (take k all) c.loop-index.invariant ∙
     ap words_of (ap (λ (s : Symbol). take k all ++ (s ∷ [])) there ∙ sym (take_more all k Zero (omega arith)) ∙ ap (λ (x : ℕ). take x all) (sym next))
 

@@ -17,13 +17,13 @@ returns-then-second-ne0 c =
     let v = drop (2 * c.args.symbols) (bits_of c.args.body.now) in
     record { value = sym (both c.args.second v ∙ ap (λ (t : Bool). t && all_zeros v) (ne_eqb (c.args.second % 16) 0 c.if-second-ne0.true)) }
 
-pub returns-then-code-in-bytes-ne0 : goal.returns-then-code-in-bytes-ne0
-returns-then-code-in-bytes-ne0 c =
+pub returns-then-code_in_bytes-ne0 : goal.returns-then-code_in_bytes-ne0
+returns-then-code_in_bytes-ne0 c =
     let u = bits_of c.args.body.now in
     let j = c.loop-index.index in
     let l = length_bits c.args.body.now in
     let t = c.loop-index-test.true in
-    let z = zeros_broken u j (omega arith) (λ k. c.if-code-in-bytes-ne0.true (c.code-in-bytes.ensures.value ∙ k)) in
+    let z = zeros_broken u j (omega arith) (λ k. c.if-code_in_bytes-ne0.true (c.code_in_bytes.ensures.value ∙ k)) in
     record {
       value = sym (both c.args.second (drop (2 * c.args.symbols) u) ∙ ap₂ (λ (a b : Bool). a && b) (eq-eqb (c.args.second % 16) 0 c.if-second-ne0.false) (sym c.loop-index.invariant ∙ z));
     }
@@ -34,7 +34,7 @@ loop-index-preserved c =
     let j = c.loop-index.index in
     let l = length_bits c.args.body.now in
     let t = c.loop-index-test.true in
-    sym (zeros_more u j (omega arith) (sym c.code-in-bytes.ensures.value ∙ c.if-code-in-bytes-ne0.false)) ∙ c.loop-index.invariant
+    sym (zeros_more u j (omega arith) (sym c.code_in_bytes.ensures.value ∙ c.if-code_in_bytes-ne0.false)) ∙ c.loop-index.invariant
 
 pub returns : goal.returns
 returns c =

@@ -15,20 +15,20 @@ fits rows before after count n e =
     let m = length-map rows words_of in
     omega arith
 
-pub slice-bounds-pack-end : goal.slice-bounds-pack-end
-slice-bounds-pack-end c =
-    let p = c.in-ok-size.ensures.rows in
-    fits p.0 c.args.rows.now c.read.new.memory c.in-ok-size.size.count p.1.1 p.1.2
+pub slice_bounds-pack-end : goal.slice_bounds-pack-end
+slice_bounds-pack-end c =
+    let p = c.in_ok-size.ensures.rows in
+    fits p.0 c.args.rows.now c.read.new.memory c.in_ok-size.size.count p.1.1 p.1.2
 
-pub slice-bounds-pack-end-2 : goal.slice-bounds-pack-end-2
-slice-bounds-pack-end-2 c =
-    let p = c.in-ok-size.ensures.rows in
-    sym (length-take-le c.in-ok-size.size.count c.read.new.memory (fits p.0 c.args.rows.now c.read.new.memory c.in-ok-size.size.count p.1.1 p.1.2))
+pub slice_bounds-pack-end-2 : goal.slice_bounds-pack-end-2
+slice_bounds-pack-end-2 c =
+    let p = c.in_ok-size.ensures.rows in
+    sym (length-take-le c.in_ok-size.size.count c.read.new.memory (fits p.0 c.args.rows.now c.read.new.memory c.in_ok-size.size.count p.1.1 p.1.2))
 
 pub returns : goal.returns
 returns c =
-    let p = c.in-ok-size.ensures.rows in
+    let p = c.in_ok-size.ensures.rows in
     let l =
-    read_and_packed (places_of c.in-ok-size.size.width) c.in-ok-size.size.count c.args.sheet.now p.0 c.args.rows.now c.read.new.memory c.args.again.now
-    c.pack.new.memory c.pack.result c.in-ok-size.ensures.refusal p.1.0 p.1.1 p.1.2 c.pack.ensures.refusal c.pack.ensures.packed in
+    read_and_packed (places_of c.in_ok-size.size.width) c.in_ok-size.size.count c.args.sheet.now p.0 c.args.rows.now c.read.new.memory c.args.again.now
+    c.pack.new.memory c.pack.result c.in_ok-size.ensures.refusal p.1.0 p.1.1 p.1.2 c.pack.ensures.refusal c.pack.ensures.packed in
     record { refusal = l.0; read = l.1; same_bytes = l.2 }

@@ -19,14 +19,14 @@ counted made t e =
     let is = e ∙ column_length (places_of t.width) t.columns (slot_count t) in
     one_shl made 128 (omega arith) ∙ ap (λ (k : ℕ). 2 ^ k) is
 
-pub overflow-shl-slots : goal.overflow-shl-slots
-overflow-shl-slots c =
+pub overflow_shl-slots : goal.overflow_shl-slots
+overflow_shl-slots c =
     let t = c.args.self.now in
     let e = column_length (places_of t.width) t.columns (slot_count t) in
     omega (arith, c.slot_count.ensures.answer, e)
 
-pub overflow-sub-slots : goal.overflow-sub-slots
-overflow-sub-slots c = let t = c.args.self.now in omega (arith, counted c.slot_count.result t c.slot_count.ensures.answer, pow_pos (slot_count t))
+pub overflow_sub-slots : goal.overflow_sub-slots
+overflow_sub-slots c = let t = c.args.self.now in omega (arith, counted c.slot_count.result t c.slot_count.ensures.answer, pow_pos (slot_count t))
 
 and_true : (b : Bool) → b ≡ (b && true)
 and_true true = refl

@@ -38,14 +38,14 @@ loop-place-preserved c =
       ],
     )
 
-pub returns-in-default : goal.returns-in-default
-returns-in-default c =
+pub returns-in_default : goal.returns-in_default
+returns-in_default c =
     let t = c.args.self.now in
     let n = places_of t.width in
     let slot = c.args.slot in
     let within : slot < length (column_slots n t.columns (slot_count t)) = omega arith in
     let short : slot < slot_count t = let e = column_length n t.columns (slot_count t) in omega arith in
-    let none = read_none t.columns slot c.loop-place.place n (sym c.symbol.ensures.value ∙ c.in-default.is) (omega arith) in
+    let none = read_none t.columns slot c.loop-place.place n (sym c.symbol.ensures.value ∙ c.in_default.is) (omega arith) in
     record { answer = read_is (column_table_state t) slot None within (none ∙ sym (column_at n t.columns (slot_count t) slot short)) }
 
 pub returns : goal.returns

@@ -8,7 +8,7 @@ use Rattle.device.proofs.Granted.{ask_is, says_none, says_some}
 use Rattle.device.proofs.Slots.{none_more, none_all, one_takes}
 use Rattle.device.proofs.Tables.{table_length, table_at}
 use Rattle.device.proofs.slot_table.SlotTableRowDevice.ask.Goals as goal
-use Rattle.device.proofs.slot_table.SlotTableRowDevice.ask.Goals.{in-Some+else-takes, in-default}
+use Rattle.device.proofs.slot_table.SlotTableRowDevice.ask.Goals.{in-Some+else-takes, in_default}
 
 pub loop-slot-init : goal.loop-slot-init
 loop-slot-init c = refl
@@ -21,10 +21,10 @@ returns-then-takes c =
     let x = c.args.number in
     let fit : x < 2 ^ n = search rules in
     let within : c.loop-slot.slot < length (table_slots n rs) = omega (arith, table_length n rs) in
-    let takes : slot_takes c.row-in.result x ≡ true =
+    let takes : slot_takes c.row_in.result x ≡ true =
     ap (λ (s : Slot). slot_takes s x) c.in-Some.is ∙ sym c.takes.ensures.by_mask ∙ c.if-takes.true in
     let hit = one_takes x (table_slots n rs) c.loop-slot.slot within
-    (ap (λ (s : Slot). slot_takes s x) (table_at n rs c.loop-slot.slot _ within ∙ sym c.row-in.ensures.value) ∙ takes) in
+    (ap (λ (s : Slot). slot_takes s x) (table_at n rs c.loop-slot.slot _ within ∙ sym c.row_in.ensures.value) ∙ takes) in
     record { answer = ask_is (slot_table_state t) x true fit (says_some (slot_table_state t) x c.if-self.false hit) }
 
 pub loop-slot-preserved : goal.loop-slot-preserved
@@ -34,13 +34,13 @@ loop-slot-preserved c =
     let n = places_of t.width in
     let x = c.args.number in
     let within : c.loop-slot.slot < length (table_slots n rs) = omega (arith, table_length n rs) in
-    let passed : slot_takes c.row-in.result x ≡ false =
-    elim c.match-row-in.branch [
+    let passed : slot_takes c.row_in.result x ≡ false =
+    elim c.match-row_in.branch [
       | in-Some+else-takes w ↦ ap (λ (s : Slot). slot_takes s x) w.in-Some.is ∙ sym w.takes.ensures.by_mask ∙ w.if-takes.false
-      | in-default w ↦ ap (λ (s : Slot). slot_takes s x) w.in-default.is
+      | in_default w ↦ ap (λ (s : Slot). slot_takes s x) w.in_default.is
     ] in
     none_more x (table_slots n rs) c.loop-slot.slot within c.loop-slot.invariant
-    (ap (λ (s : Slot). slot_takes s x) (table_at n rs c.loop-slot.slot _ within ∙ sym c.row-in.ensures.value) ∙ passed)
+    (ap (λ (s : Slot). slot_takes s x) (table_at n rs c.loop-slot.slot _ within ∙ sym c.row_in.ensures.value) ∙ passed)
 
 -- all slots were passed
 passed_all : (t : SlotTable) (x i : ℕ) → x < 2 ^ places_of t.width → min 120 (length t.records.now) ≤ i →

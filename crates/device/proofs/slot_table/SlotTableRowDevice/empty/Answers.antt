@@ -6,8 +6,8 @@ use Rattle.device.proofs.Granted.{empty_left}
 use Rattle.device.proofs.Tables.{table_length, table_set, slot_of_empty}
 use Rattle.device.proofs.slot_table.SlotTableRowDevice.empty.Goals as goal
 
-pub offset-bounds-self-slot : goal.offset-bounds-self-slot
-offset-bounds-self-slot c = let e = table_length (places_of c.args.self.now.width) c.args.self.now.records.now in search rules
+pub offset_bounds-self-slot : goal.offset_bounds-self-slot
+offset_bounds-self-slot c = let e = table_length (places_of c.args.self.now.width) c.args.self.now.records.now in search rules
 
 pub bounds-self-slot : goal.bounds-self-slot
 bounds-self-slot c = let e = table_length (places_of c.args.self.now.width) c.args.self.now.records.now in omega arith
