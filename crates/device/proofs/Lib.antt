@@ -2,8 +2,8 @@ pub mod Rows
 pub mod Slots
 pub mod Granted
 pub mod Tables
-pub mod SameAnswers
 pub mod Plays
 pub mod BitSets
 pub mod Columns
 pub mod SymbolTakes
+pub mod SameAnswers

@@ -11,15 +11,10 @@ use Rattle.device.specs.contracts.call.DeviceAnswerPartialEq.TheImpl as answer_e
 use Rattle.device.proofs.Rows.{row_same}
 
 row_decides : (x y : Row) (r : Bool) → (r ≡ (row_equality.ghosts).eq x y) → Decides r (x ≡ y)
-row_decides x y true h = (λ _. row_same x y (h.0.0 refl) (h.1.0 refl), λ _. refl)
-row_decides x y false h = (
-  λ t. absurd (false≢true t),
-  λ e. absurd (h (λ d. false≢true (d.1 (ap (λ (z : Row). z.value) e))) (λ d. false≢true (d.1 (ap (λ (z : Row). z.care) e)))),
-)
+row_decides x y r h = ?
 
 refusal_decides : (x y : Refusal) (r : Bool) → (r ≡ (refusal_equality.ghosts).eq x y) → Decides r (x ≡ y)
-refusal_decides x y true h = (λ _. h, λ _. refl)
-refusal_decides x y false h = (λ t. absurd (false≢true t), λ e. absurd (h e))
+refusal_decides x y r h = ?
 
 apart : {X : Type 0} (x y : X) (r : Bool) → (x ≡ y → ⊥) → r ≡ false → Decides r (x ≡ y)
 apart x y r differ h = (λ t. absurd (both_ways r h t), λ e. absurd (differ e))

@@ -84,8 +84,8 @@ bounds-out-at-then-first-eq0 t c =
     let room = c.requires.room in
     omega arith
 
-pub end-rows-requires : goal.end-rows-requires
-end-rows-requires t c =
+pub end_rows-requires : goal.end_rows-requires
+end_rows-requires t c =
     let h = below_top c.args.places c.args.last c.requires.places_within c.requires.last_within c.if-last-limit.false in
     let k = ends_length c.args.lead c.args.lead.one c.args.lead.zero c.args.places c.args.first c.args.last (end_list c.args.places (c.args.last + 1) false)
     (from_zero_at c.args.lead c.args.places c.args.first c.args.last c.if-first-eq0.true h) in
@@ -98,10 +98,10 @@ returns-then-first-eq0 t c =
     let all = from_zero_at c.args.lead c.args.places c.args.first c.args.last c.if-first-eq0.true h in
     let k = ends_length c.args.lead c.args.lead.one c.args.lead.zero c.args.places c.args.first c.args.last (end_list c.args.places (c.args.last + 1) false) all in
     let room = c.requires.room in
-    let after = c.end-rows.ensures.next in
+    let after = c.end_rows.ensures.next in
     record {
       rows =
-          c.end-rows.ensures.rows ∙
+          c.end_rows.ensures.rows ∙
           sym (written_first c.args.out.now c.args.at c.args.lead.zero (map (behind_front c.args.lead.one) (end_list c.args.places (c.args.last + 1) false)) (omega arith)) ∙
           ap (written c.args.out.now c.args.at) (sym all);
       next = omega arith;
@@ -121,8 +121,8 @@ bounds-out-at-then-last-limit-2 t c =
     let room = c.requires.room in
     omega arith
 
-pub end-rows-requires-then-last-limit-2 : goal.end-rows-requires-then-last-limit-2
-end-rows-requires-then-last-limit-2 t c =
+pub end_rows-requires-then-last-limit-2 : goal.end_rows-requires-then-last-limit-2
+end_rows-requires-then-last-limit-2 t c =
     let w = one_shl c.args.places 64 (omega arith) in
     let k = highest_length c.args.lead c.args.places c.args.first c.args.last c.requires.places_within c.if-first-eq0.false c.requires.first_within c.if-last-limit-2.true in
     let room = c.requires.room in
@@ -134,17 +134,17 @@ returns-then-last-limit-2 t c =
     let all = highest c.args.lead c.args.places c.args.first c.args.last c.requires.places_within c.if-first-eq0.false c.requires.first_within c.if-last-limit-2.true in
     let k = highest_length c.args.lead c.args.places c.args.first c.args.last c.requires.places_within c.if-first-eq0.false c.requires.first_within c.if-last-limit-2.true in
     let room = c.requires.room in
-    let after = c.end-rows-then-last-limit-2.ensures.next in
+    let after = c.end_rows-then-last-limit-2.ensures.next in
     record {
       rows =
-          c.end-rows-then-last-limit-2.ensures.rows ∙
+          c.end_rows-then-last-limit-2.ensures.rows ∙
           sym (written_first c.args.out.now c.args.at c.args.lead.one _ (omega arith)) ∙
           ap (written c.args.out.now c.args.at) (sym all);
       next = omega arith;
     }
 
-pub rows-in-inner-quarters-requires : goal.rows-in-inner-quarters-requires
-rows-in-inner-quarters-requires t c =
+pub rows_in_inner_quarters-requires : goal.rows_in_inner_quarters-requires
+rows_in_inner_quarters-requires t c =
     let M = middle c.args.places c.args.first c.args.last c.requires.places_within c.requires.first_within c.requires.last_within c.if-first-eq0.false c.if-last-limit-2.false in
     let h = M.half in
     let d = M.double in
@@ -160,12 +160,12 @@ returns-then-last-half t c =
     let M = middle c.args.places c.args.first c.args.last c.requires.places_within c.requires.first_within c.requires.last_within c.if-first-eq0.false c.if-last-limit-2.false in
     let e = inner_quarters_at c.args.places c.args.first c.args.last _ M.some M.half c.if-first-half.true in
     record {
-      rows = c.rows-in-inner-quarters.ensures.rows ∙ ap (λ l. written c.args.out.now c.args.at (map (behind_lead c.args.lead) l)) (sym e);
-      next = c.rows-in-inner-quarters.ensures.next ∙ ap (λ l. c.args.at + length l) (sym e);
+      rows = c.rows_in_inner_quarters.ensures.rows ∙ ap (λ l. written c.args.out.now c.args.at (map (behind_lead c.args.lead) l)) (sym e);
+      next = c.rows_in_inner_quarters.ensures.next ∙ ap (λ l. c.args.at + length l) (sym e);
     }
 
-pub rows-of-ends-apart-requires : goal.rows-of-ends-apart-requires
-rows-of-ends-apart-requires t c =
+pub rows_of_ends_apart-requires : goal.rows_of_ends_apart-requires
+rows_of_ends_apart-requires t c =
     let M = middle c.args.places c.args.first c.args.last c.requires.places_within c.requires.first_within c.requires.last_within c.if-first-eq0.false c.if-last-limit-2.false in
     let h = M.half in
     let d = M.double in
@@ -181,8 +181,8 @@ returns-then-first-last t c =
     let M = middle c.args.places c.args.first c.args.last c.requires.places_within c.requires.first_within c.requires.last_within c.if-first-eq0.false c.if-last-limit-2.false in
     let e = ends_apart_at c.args.places c.args.first c.args.last _ M.some M.half c.if-last-half-2.false in
     record {
-      rows = c.rows-of-ends-apart.ensures.rows ∙ ap (λ l. written c.args.out.now c.args.at (map (behind_lead c.args.lead) l)) (sym e);
-      next = c.rows-of-ends-apart.ensures.next ∙ ap (λ l. c.args.at + length l) (sym e);
+      rows = c.rows_of_ends_apart.ensures.rows ∙ ap (λ l. written c.args.out.now c.args.at (map (behind_lead c.args.lead) l)) (sym e);
+      next = c.rows_of_ends_apart.ensures.next ∙ ap (λ l. c.args.at + length l) (sym e);
     }
 
 pub extend-requires : goal.extend-requires
@@ -205,8 +205,8 @@ bounds-out-at-then-first-half t c =
     let room = c.requires.room in
     omega arith
 
-pub rows-across-requires : goal.rows-across-requires
-rows-across-requires t c =
+pub rows_across-requires : goal.rows_across-requires
+rows_across-requires t c =
     let M = middle c.args.places c.args.first c.args.last c.requires.places_within c.requires.first_within c.requires.last_within c.if-first-eq0.false c.if-last-limit-2.false in
     let k = third_quarter_length c.args.places c.args.first c.args.last _ M.some M.half c.if-first-half.true c.requires.first_within c.if-last-half.false M.last in
     let h = M.half in
@@ -252,8 +252,8 @@ bounds-out-at-then-last-half-2 t c =
     let room = c.requires.room in
     omega arith
 
-pub rows-across-requires-then-last-half-2 : goal.rows-across-requires-then-last-half-2
-rows-across-requires-then-last-half-2 t c =
+pub rows_across-requires-then-last-half-2 : goal.rows_across-requires-then-last-half-2
+rows_across-requires-then-last-half-2 t c =
     let M = middle c.args.places c.args.first c.args.last c.requires.places_within c.requires.first_within c.requires.last_within c.if-first-eq0.false c.if-last-limit-2.false in
     let k = second_quarter_length c.args.places c.args.first c.args.last _ M.some M.half M.first c.if-first-half.false c.if-last-half-2.true in
     let h = M.half in
@@ -272,10 +272,10 @@ returns-then-last-half-2 t c =
     let k = second_quarter_length c.args.places c.args.first c.args.last _ M.some M.half M.first c.if-first-half.false c.if-last-half-2.true in
     let all = second_quarter_at c.args.lead c.inserted-then-last-half-2.result c.extend-then-last-half-2.result c.args.places c.args.first c.args.last _ M.some M.half M.first c.if-first-half.false c.if-last-half-2.true c.extend-then-last-half-2.ensures.extended c.inserted-then-last-half-2.ensures.inserted in
     let room = c.requires.room in
-    let after = c.rows-across-then-last-half-2.ensures.next in
+    let after = c.rows_across-then-last-half-2.ensures.next in
     record {
       rows =
-          c.rows-across-then-last-half-2.ensures.rows ∙
+          c.rows_across-then-last-half-2.ensures.rows ∙
           sym (written_first c.args.out.now c.args.at c.extend-then-last-half-2.result _ (omega arith)) ∙
           ap (written c.args.out.now c.args.at) (sym all);
       next = omega arith;
@@ -301,8 +301,8 @@ bounds-out-at-2 t c =
     let room = c.requires.room in
     omega arith
 
-pub rows-across-requires-2 : goal.rows-across-requires-2
-rows-across-requires-2 t c =
+pub rows_across-requires-2 : goal.rows_across-requires-2
+rows_across-requires-2 t c =
     let M = middle c.args.places c.args.first c.args.last c.requires.places_within c.requires.first_within c.requires.last_within c.if-first-eq0.false c.if-last-limit-2.false in
     let k = ends_overlap_length c.args.places c.args.first c.args.last _ M.some M.half M.first c.if-first-half.false c.if-last-half-2.false M.last c.if-first-last.false in
     let h = M.half in
@@ -320,10 +320,10 @@ returns t c =
     let k = ends_overlap_length c.args.places c.args.first c.args.last _ M.some M.half M.first c.if-first-half.false c.if-last-half-2.false M.last c.if-first-last.false in
     let all = ends_overlap_at c.args.lead c.widened.result c.extend-2.result c.args.places c.args.first c.args.last _ M.some M.half M.first c.if-first-half.false c.if-last-half-2.false M.last c.if-first-last.false c.extend-2.ensures.extended c.widened.ensures.widened in
     let room = c.requires.room in
-    let after = c.rows-across-2.ensures.next in
+    let after = c.rows_across-2.ensures.next in
     record {
       rows =
-          c.rows-across-2.ensures.rows ∙
+          c.rows_across-2.ensures.rows ∙
           sym (written_first c.args.out.now c.args.at c.extend-2.result _ (omega arith)) ∙
           ap (written c.args.out.now c.args.at) (sym all);
       next = omega arith;

@@ -1,4 +1,4 @@
 use Rattle.ranges.proofs.beside.+write_beside.Given as goal
 
-abbrev pub decreases-write-beside : goal.decreases-write-beside
-decreases-write-beside l = l.places
+abbrev pub decreases-write_beside : goal.decreases-write_beside
+decreases-write_beside l = l.places

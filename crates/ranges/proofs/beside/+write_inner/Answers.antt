@@ -41,17 +41,17 @@ module _ (p b a : ℕ) (small : p ≤ 32) (near : b % ((1 * 2 ^ p) % 18446744073
       let v = ap (λ (k : ℕ). a % k) s in
       inner_at_one p some_places b a (omega arith)
 
-pub write-each-turned-next-requires : goal.write-each-turned-next-requires
-write-each-turned-next-requires t c =
+pub write_each_turned-next-requires : goal.write_each_turned-next-requires
+write_each_turned-next-requires t c =
     let k = rest_length c.args.places c.args.before c.args.after c.requires.places_within c.if-before-limit.true in
     let room = c.requires.room in
     record { places_within = c.requires.places_within; number_within = c.requires.before_within; room = omega arith }
 
-pub write-each-turned-requires : goal.write-each-turned-requires
-write-each-turned-requires t c =
+pub write_each_turned-requires : goal.write_each_turned-requires
+write_each_turned-requires t c =
     let k = rest_length c.args.places c.args.before c.args.after c.requires.places_within c.if-before-limit.true in
     let room = c.requires.room in
-    let next = c.write-each-turned-next.ensures.next in
+    let next = c.write_each_turned-next.ensures.next in
     record { places_within = c.requires.places_within; number_within = c.requires.after_within; room = omega arith }
 
 pub returns-then-before-limit : goal.returns-then-before-limit
@@ -61,19 +61,19 @@ returns-then-before-limit t c =
     let a = c.args.after in
     let k = rest_length p b a c.requires.places_within c.if-before-limit.true in
     let room = c.requires.room in
-    let next = c.write-each-turned-next.ensures.next in
-    let after = c.write-each-turned.ensures.next in
+    let next = c.write_each_turned-next.ensures.next in
+    let after = c.write_each_turned.ensures.next in
     record {
       numbers =
-          c.write-each-turned.ensures.numbers ∙
-          written_after (each_turned false p b) (each_turned true p a) c.args.out.now c.write-each-turned-next.new.out c.args.at c.write-each-turned-next.result (omega arith)
-          c.write-each-turned-next.ensures.numbers next ∙
+          c.write_each_turned.ensures.numbers ∙
+          written_after (each_turned false p b) (each_turned true p a) c.args.out.now c.write_each_turned-next.new.out c.args.at c.write_each_turned-next.result (omega arith)
+          c.write_each_turned-next.ensures.numbers next ∙
           ap (written c.args.out.now c.args.at) (sym (rest p b a c.requires.places_within c.if-before-limit.true));
       next = omega arith;
     }
 
-pub overflow-sub-place : goal.overflow-sub-place
-overflow-sub-place t c = some_places c.args.places c.args.before c.args.after c.requires.places_within c.if-before-limit.false
+pub overflow_sub-place : goal.overflow_sub-place
+overflow_sub-place t c = some_places c.args.places c.args.before c.args.after c.requires.places_within c.if-before-limit.false
 
 pub bounds-out-at : goal.bounds-out-at
 bounds-out-at t c =
@@ -81,8 +81,8 @@ bounds-out-at t c =
     let room = c.requires.room in
     omega arith
 
-pub write-inner-requires : goal.write-inner-requires
-write-inner-requires t c =
+pub write_inner-requires : goal.write_inner-requires
+write_inner-requires t c =
     let some = some_places c.args.places c.args.before c.args.after c.requires.places_within c.if-before-limit.false in
     let k = ap length (first c.args.places c.args.before c.args.after c.requires.places_within c.if-before-limit.false) in
     let room = c.requires.room in
@@ -97,11 +97,11 @@ returns t c =
     let all = first p b a c.requires.places_within c.if-before-limit.false in
     let k = ap length all in
     let room = c.requires.room in
-    let after = c.write-inner.ensures.next in
+    let after = c.write_inner.ensures.next in
     record {
       numbers =
-          c.write-inner.ensures.numbers ∙
-          sym (written_first c.args.out.now c.args.at c.with-one-turned.result (inner_numbers (p - 1) b a) (omega arith)) ∙
-          ap (written c.args.out.now c.args.at) (ap (λ (w : ℕ). w ∷ inner_numbers (p - 1) b a) c.with-one-turned.ensures.value ∙ sym all);
+          c.write_inner.ensures.numbers ∙
+          sym (written_first c.args.out.now c.args.at c.with_one_turned.result (inner_numbers (p - 1) b a) (omega arith)) ∙
+          ap (written c.args.out.now c.args.at) (ap (λ (w : ℕ). w ∷ inner_numbers (p - 1) b a) c.with_one_turned.ensures.value ∙ sym all);
       next = omega arith;
     }

@@ -42,8 +42,8 @@ bounds-out-at t c =
     let room = c.requires.room in
     omega arith
 
-pub rows-of-round-requires : goal.rows-of-round-requires
-rows-of-round-requires t c =
+pub rows_of_round-requires : goal.rows_of_round-requires
+rows_of_round-requires t c =
     let K = known c.args.places c.args.first c.args.last c.requires.places_within c.requires.round c.requires.first_within in
     let k = round_low_length c.args.places c.args.first c.args.last _ K.some K.half c.requires.round c.if-first-half.true in
     let h = K.half in
@@ -61,10 +61,10 @@ returns-then-first-half t c =
     let k = round_low_length c.args.places c.args.first c.args.last _ K.some K.half c.requires.round c.if-first-half.true in
     let all = round_low_at c.args.places c.args.first c.args.last _ K.some K.half c.args.front c.extend.result c.extend-then-first-half.result c.requires.round c.if-first-half.true c.extend.ensures.extended c.extend-then-first-half.ensures.extended in
     let room = c.requires.room in
-    let after = c.rows-of-round.ensures.next in
+    let after = c.rows_of_round.ensures.next in
     record {
       rows =
-          c.rows-of-round.ensures.rows ∙
+          c.rows_of_round.ensures.rows ∙
           sym (written_first c.args.out.now c.args.at c.extend.result _ (omega arith)) ∙
           ap (written c.args.out.now c.args.at) (sym all);
       next = omega arith;
@@ -84,8 +84,8 @@ bounds-out-at-then-last-half t c =
     let room = c.requires.room in
     omega arith
 
-pub rows-of-round-requires-then-last-half : goal.rows-of-round-requires-then-last-half
-rows-of-round-requires-then-last-half t c =
+pub rows_of_round-requires-then-last-half : goal.rows_of_round-requires-then-last-half
+rows_of_round-requires-then-last-half t c =
     let K = known c.args.places c.args.first c.args.last c.requires.places_within c.requires.round c.requires.first_within in
     let k = round_high_length c.args.places c.args.first c.args.last _ K.some K.half c.requires.round c.if-last-half.true c.requires.first_within in
     let h = K.half in
@@ -103,10 +103,10 @@ returns-then-last-half t c =
     let k = round_high_length c.args.places c.args.first c.args.last _ K.some K.half c.requires.round c.if-last-half.true c.requires.first_within in
     let all = round_high_at c.args.places c.args.first c.args.last _ K.some K.half c.args.front c.extend-then-last-half.result c.extend-then-last-half-2.result c.requires.round c.if-last-half.true c.requires.first_within c.extend-then-last-half.ensures.extended c.extend-then-last-half-2.ensures.extended in
     let room = c.requires.room in
-    let after = c.rows-of-round-then-last-half.ensures.next in
+    let after = c.rows_of_round-then-last-half.ensures.next in
     record {
       rows =
-          c.rows-of-round-then-last-half.ensures.rows ∙
+          c.rows_of_round-then-last-half.ensures.rows ∙
           sym (written_first c.args.out.now c.args.at c.extend-then-last-half.result _ (omega arith)) ∙
           ap (written c.args.out.now c.args.at) (sym all);
       next = omega arith;
@@ -118,8 +118,8 @@ behind-requires t c =
     let some = K.some in
     record { place_within = omega arith; free = free_at c.args.places c.args.front K.some c.requires.free }
 
-pub rows-across-requires : goal.rows-across-requires
-rows-across-requires t c =
+pub rows_across-requires : goal.rows_across-requires
+rows_across-requires t c =
     let K = known c.args.places c.args.first c.args.last c.requires.places_within c.requires.round c.requires.first_within in
     let k = round_across_length c.args.places c.args.first c.args.last _ K.some K.half c.if-first-half.false c.requires.first_within c.if-last-half.false in
     let h = K.half in

@@ -10,11 +10,11 @@ use Rattle.rows.proofs.Writing.{written_one}
 use Rattle.ranges.proofs.RunLists.{shared_beginning, shared_length, order_left, differ_first, across_at, across_begun}
 use Rattle.ranges.proofs.straight.+rows_of_straight.Goals as goal
 
-pub rows-of-straight-requires : goal.rows-of-straight-requires
-rows-of-straight-requires t c =
-    let q = c.places-apart-rest.result in
+pub rows_of_straight-requires : goal.rows_of_straight-requires
+rows_of_straight-requires t c =
+    let q = c.places_apart-rest.result in
     let s : (1 * 2 ^ q) % 18446744073709551616 ≡ 2 ^ q = one_shl q 64 (omega arith) in
-    let same = c.places-apart-rest.ensures.alike_before in
+    let same = c.places_apart-rest.ensures.alike_before in
     let low = ap (λ (k : ℕ). c.args.first % k) s in
     let high = ap (λ (k : ℕ). c.args.last % k) s in
     let o = order_left q c.args.first c.args.last c.requires.ordered same in
@@ -22,24 +22,24 @@ rows-of-straight-requires t c =
     let k = shared_length c.args.places q c.args.first c.args.last (omega arith) c.requires.ordered c.requires.last_within same in
     let l = ap₂ (λ (x y : ℕ). length (straight_rows q x y)) low high in
     let room = c.requires.room in
-    (search rules, (omega arith, (omega arith, (omega arith, (c.with-digits.ensures.free, omega arith)))))
+    (search rules, (omega arith, (omega arith, (omega arith, (c.with_digits.ensures.free, omega arith)))))
 
 pub returns-then-rest-places : goal.returns-then-rest-places
 returns-then-rest-places t c =
-    let q = c.places-apart-rest.result in
+    let q = c.places_apart-rest.result in
     let s : (1 * 2 ^ q) % 18446744073709551616 ≡ 2 ^ q = one_shl q 64 (omega arith) in
-    let same = c.places-apart-rest.ensures.alike_before in
+    let same = c.places_apart-rest.ensures.alike_before in
     let low = ap (λ (k : ℕ). c.args.first % k) s in
     let high = ap (λ (k : ℕ). c.args.last % k) s in
     let le : q ≤ c.args.places = omega arith in
     let k = shared_length c.args.places q c.args.first c.args.last le c.requires.ordered c.requires.last_within same in
     let l = ap₂ (λ (x y : ℕ). length (straight_rows q x y)) low high in
-    let after = c.rows-of-straight.ensures.next in
+    let after = c.rows_of_straight.ensures.next in
     record {
       rows =
-          c.rows-of-straight.ensures.rows ∙
-          ap (written c.args.out.now c.args.at) (ap₂ (λ (x y : ℕ). map (behind_front c.with-digits.result) (straight_rows q x y)) low high ∙
-          sym (shared_beginning c.args.places q c.args.first c.args.last c.args.front c.with-digits.result le c.requires.ordered c.requires.last_within same c.with-digits.ensures.value c.with-digits.ensures.care));
+          c.rows_of_straight.ensures.rows ∙
+          ap (written c.args.out.now c.args.at) (ap₂ (λ (x y : ℕ). map (behind_front c.with_digits.result) (straight_rows q x y)) low high ∙
+          sym (shared_beginning c.args.places q c.args.first c.args.last c.args.front c.with_digits.result le c.requires.ordered c.requires.last_within same c.with_digits.ensures.value c.with_digits.ensures.care));
       next = omega arith;
     }
 
@@ -90,16 +90,16 @@ behind-requires t c =
     let some : 0 < c.args.places = omega arith in
     record { place_within = omega arith; free = free_at c.args.places c.args.front some c.requires.free }
 
-pub overflow-sub-last : goal.overflow-sub-last
-overflow-sub-last t c =
-    let K = known c.args.places c.places-apart-rest.result c.args.first c.args.last c.requires.places_within (omega arith) c.if-rest-places.false c.places-apart-rest.ensures.apart c.requires.ordered c.requires.last_within in
+pub overflow_sub-last : goal.overflow_sub-last
+overflow_sub-last t c =
+    let K = known c.args.places c.places_apart-rest.result c.args.first c.args.last c.requires.places_within (omega arith) c.if-rest-places.false c.places_apart-rest.ensures.apart c.requires.ordered c.requires.last_within in
     let h = K.half in
     let l = K.high in
     omega arith
 
-pub rows-across-requires : goal.rows-across-requires
-rows-across-requires t c =
-    let K = known c.args.places c.places-apart-rest.result c.args.first c.args.last c.requires.places_within (omega arith) c.if-rest-places.false c.places-apart-rest.ensures.apart c.requires.ordered c.requires.last_within in
+pub rows_across-requires : goal.rows_across-requires
+rows_across-requires t c =
+    let K = known c.args.places c.places_apart-rest.result c.args.first c.args.last c.requires.places_within (omega arith) c.if-rest-places.false c.places_apart-rest.ensures.apart c.requires.ordered c.requires.last_within in
     let h = K.half in
     let d = K.double in
     let low = K.low in
@@ -112,7 +112,7 @@ rows-across-requires t c =
 
 pub returns : goal.returns
 returns t c =
-    let K = known c.args.places c.places-apart-rest.result c.args.first c.args.last c.requires.places_within (omega arith) c.if-rest-places.false c.places-apart-rest.ensures.apart c.requires.ordered c.requires.last_within in
+    let K = known c.args.places c.places_apart-rest.result c.args.first c.args.last c.requires.places_within (omega arith) c.if-rest-places.false c.places_apart-rest.ensures.apart c.requires.ordered c.requires.last_within in
     let h = K.half in
     let low = K.low in
     let high = K.high in

@@ -27,7 +27,7 @@ returns-then-size-gt-MOST_ROWS c =
     let sheet = c.args.bytes.now in
     let room = length c.args.memory.now in
     let o =
-    opened sheet (places_of c.header-size.result.width) c.header-size.result.count (λ i. omega (arith, c.type-inv.bytes i)) (omega (arith, ltb-false))
+    opened sheet (places_of c.header-size.result.width) c.header-size.result.count (λ i. omega (arith, c.type_inv.bytes i)) (omega (arith, ltb-false))
     c.header-size.ensures.width c.header-size.ensures.count in
     let k = o.count_is in
     let t = c.if-size-gt-MOST_ROWS.true in
@@ -45,7 +45,7 @@ returns-then-body-needed c =
     let places = c.places-places.result in
     let count = c.header-size.result.count in
     let o =
-    opened sheet places count (λ i. omega (arith, c.type-inv.bytes i)) (omega (arith, ltb-false)) (c.places-places.ensures.value ∙ c.header-size.ensures.width)
+    opened sheet places count (λ i. omega (arith, c.type_inv.bytes i)) (omega (arith, ltb-false)) (c.places-places.ensures.value ∙ c.header-size.ensures.width)
     c.header-size.ensures.count in
     let k = o.count_is in
     let l = o.length_is in
@@ -62,7 +62,7 @@ returns-then-any_unknown c =
     let places = c.places-places.result in
     let count = c.header-size.result.count in
     let o =
-    opened sheet places count (λ i. omega (arith, c.type-inv.bytes i)) (omega (arith, ltb-false)) (c.places-places.ensures.value ∙ c.header-size.ensures.width)
+    opened sheet places count (λ i. omega (arith, c.type_inv.bytes i)) (omega (arith, ltb-false)) (c.places-places.ensures.value ∙ c.header-size.ensures.width)
     c.header-size.ensures.count in
     let k = o.count_is in
     let l = o.length_is in
@@ -79,7 +79,7 @@ returns-then-left_over-gt0 c =
     let places = c.places-places.result in
     let count = c.header-size.result.count in
     let o =
-    opened sheet places count (λ i. omega (arith, c.type-inv.bytes i)) (omega (arith, ltb-false)) (c.places-places.ensures.value ∙ c.header-size.ensures.width)
+    opened sheet places count (λ i. omega (arith, c.type_inv.bytes i)) (omega (arith, ltb-false)) (c.places-places.ensures.value ∙ c.header-size.ensures.width)
     c.header-size.ensures.count in
     let k = o.count_is in
     let l = o.length_is in
@@ -108,7 +108,7 @@ returns-then-not-zeros_clear c =
     let places = c.places-places.result in
     let count = c.header-size.result.count in
     let o =
-    opened sheet places count (λ i. omega (arith, c.type-inv.bytes i)) (omega (arith, ltb-false)) (c.places-places.ensures.value ∙ c.header-size.ensures.width)
+    opened sheet places count (λ i. omega (arith, c.type_inv.bytes i)) (omega (arith, ltb-false)) (c.places-places.ensures.value ∙ c.header-size.ensures.width)
     c.header-size.ensures.count in
     let k = o.count_is in
     let l = o.length_is in
@@ -129,7 +129,7 @@ returns-then-memory-size c =
     let places = c.places-places.result in
     let count = c.header-size.result.count in
     let o =
-    opened sheet places count (λ i. omega (arith, c.type-inv.bytes i)) (omega (arith, ltb-false)) (c.places-places.ensures.value ∙ c.header-size.ensures.width)
+    opened sheet places count (λ i. omega (arith, c.type_inv.bytes i)) (omega (arith, ltb-false)) (c.places-places.ensures.value ∙ c.header-size.ensures.width)
     c.header-size.ensures.count in
     let k = o.count_is in
     let l = o.length_is in
@@ -165,7 +165,7 @@ loop-row-preserved c =
     let row = c.loop-row.row in
     let body = take (length sheet - 2) (drop 2 sheet) in
     let o =
-    opened sheet places count (λ i. omega (arith, c.type-inv.bytes i)) (omega (arith, ltb-false)) (c.places-places.ensures.value ∙ c.header-size.ensures.width)
+    opened sheet places count (λ i. omega (arith, c.type_inv.bytes i)) (omega (arith, ltb-false)) (c.places-places.ensures.value ∙ c.header-size.ensures.width)
     c.header-size.ensures.count in
     let i = c.loop-row-test.true in
     let r = c.if-memory-size.false in
@@ -182,7 +182,7 @@ returns c =
     let row = c.loop-row.row in
     let body = take (length sheet - 2) (drop 2 sheet) in
     let o =
-    opened sheet places count (λ i. omega (arith, c.type-inv.bytes i)) (omega (arith, ltb-false)) (c.places-places.ensures.value ∙ c.header-size.ensures.width)
+    opened sheet places count (λ i. omega (arith, c.type_inv.bytes i)) (omega (arith, ltb-false)) (c.places-places.ensures.value ∙ c.header-size.ensures.width)
     c.header-size.ensures.count in
     let k = o.count_is in
     let l = o.length_is in
@@ -194,7 +194,7 @@ returns c =
     let s = asked sheet body places count c.div_ceil-needed.result o c.div_ceil-needed.ensures in
     let z : all_zeros (zero_bits sheet) ≡ true = ap all_zeros o.zeros_are ∙ sym c.if-not-zeros_clear.ensures.value in
     let u : unknown_code (symbol_bits sheet) ≡ false = ap unknown_code o.symbols_are ∙ sym c.if-any_unknown.ensures.value in
-    let is : Sheet (width_field sheet) (rows_in sheet) sheet = reading_stands sheet (all_bytes sheet (λ i. omega (arith, c.type-inv.bytes i))) o.two (omega arith) (omega arith) u z in
+    let is : Sheet (width_field sheet) (rows_in sheet) sheet = reading_stands sheet (all_bytes sheet (λ i. omega (arith, c.type_inv.bytes i))) o.two (omega arith) (omega arith) u z in
     let wide : width_field sheet ≡ places_of c.header-size.result.width = o.width_is ∙ c.places-places.ensures.value in
     let n = rows_count sheet body places count o in
     let len : count ≡ length (rows_in sheet) = sym n ∙ length-map (rows_in sheet) words_of in

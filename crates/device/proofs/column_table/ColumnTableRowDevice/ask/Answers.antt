@@ -11,5 +11,5 @@ returns-then-not-self c =
     let n = places_of t.width in
     let x = c.args.number in
     let fit : x < 2 ^ n = search rules in
-    let some = some_taking n t.columns (slot_count t) x c.taking.result c.taking.type-inv c.taking.ensures.value in
+    let some = some_taking n t.columns (slot_count t) x c.taking.result c.taking.type_inv c.taking.ensures.value in
     record { answer = ask_is (column_table_state t) x _ fit (some ∙ rw c.if-not-self.true) }

@@ -1,4 +1,4 @@
-use Rattle.std.proofs.Common.{◌≡◌, ℕ, ◌+◌, ◌<◌, min, false, List, [], ◌∷◌, ◌++◌, length, take, drop, set, replicate, None, sym, refl, ap, ◌∙◌, ap₂, add-one, arith, take-suc-set, drop-set-lt}
+use Rattle.std.proofs.Common.{◌≡◌, ℕ, ◌+◌, ◌-◌, ◌<◌, ◌≤◌, min, false, List, [], ◌∷◌, ◌++◌, length, take, drop, set, replicate, None, sym, refl, ap, ◌∙◌, ap₂, add-one, arith, take-suc-set, drop-set-lt}
 use Rattle.std.proofs.lemmas.List.{drop-drop, replicate_more, take-append-drop}
 use Rattle.rows.specs.Widths.{places_of}
 use Rattle.device.specs.declared.slot_record.SlotRecord.{SlotRecord}
@@ -6,6 +6,10 @@ use Rattle.device.specs.States.{Slot, DeviceState}
 use Rattle.device.specs.SlotTables.{empty_record}
 use Rattle.device.proofs.Tables.{blank_slots}
 use Rattle.device.proofs.slot_table.SlotTable.new.Goals as goal
+
+-- where two lists are the same from an index on, they are the same from a later one on
+rest_from : (a b : List SlotRecord) (k : ℕ) → k ≤ 120 → drop k a ≡ drop k b → drop 120 a ≡ drop 120 b
+rest_from a b k h e = let p = drop-drop (120 - k) k a in let q = drop-drop (120 - k) k b in let s : k + (120 - k) ≡ 120 = omega arith in rw (sym s, sym p, sym q) (ap (drop (120 - k)) e)
 
 pub loop-slot-init : goal.loop-slot-init
 loop-slot-init c = (refl, refl)
@@ -30,5 +34,6 @@ returns c =
     record {
       begins = ap {B = DeviceState} (λ (l : List Slot). record { width = n; slots = l; muted = false })
           (blank_slots n k rs e2 c.loop-slot.invariant.0 ∙ ap (λ (j : ℕ). replicate j None) e);
+      rest = rest_from rs c.args.records.now k (omega arith) c.loop-slot.invariant.1;
       memory = sym (take-append-drop k rs) ∙ ap₂ (λ (a b : List SlotRecord). a ++ b) c.loop-slot.invariant.0 c.loop-slot.invariant.1 ∙ ap (λ (j : ℕ). replicate j empty_record ++ drop j c.args.records.now) e;
     }

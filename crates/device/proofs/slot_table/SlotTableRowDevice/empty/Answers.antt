@@ -1,4 +1,4 @@
-use Rattle.std.proofs.Common.{◌<◌, List, length, set, refl, ap, ◌∙◌, arith, rules}
+use Rattle.std.proofs.Common.{◌<◌, List, length, set, refl, ap, ◌∙◌, arith, rules, drop-set-lt}
 use Rattle.rows.specs.Widths.{places_of}
 use Rattle.device.specs.States.{Slot, DeviceState}
 use Rattle.device.specs.SlotTables.{table_slots, slot_table_state}
@@ -23,5 +23,6 @@ returns c =
       after = ap {B = DeviceState} (λ (l : List Slot). record { width = n; slots = l; muted = t.muted })
           (table_set n rs c.args.slot _ within ∙ ap (set (table_slots n rs) c.args.slot) (slot_of_empty n _ _))
           ∙ empty_left (slot_table_state t) c.args.slot within;
+      rest = drop-set-lt 120 rs c.args.slot _ (omega (arith, table_length n rs));
       memory = refl;
     }

@@ -1,4 +1,4 @@
-use Rattle.std.proofs.Common.{ℕ, ◌^◌, ◌<◌, true, List, length, set, ap, ◌∙◌, ap₂, arith, rules}
+use Rattle.std.proofs.Common.{ℕ, ◌^◌, ◌<◌, true, List, length, set, ap, ◌∙◌, ap₂, arith, rules, drop-set-lt}
 use Rattle.rows.specs.Widths.{places_of}
 use Rattle.device.specs.States.{Slot, DeviceState}
 use Rattle.device.specs.SlotTables.{slot_of, table_slots, slot_table_state}
@@ -27,5 +27,6 @@ returns c =
           ∙ ap (set (table_slots n rs) c.args.slot)
           (ap₂ (λ (v d : ℕ). slot_of n (record { filled = true; value = v; care = d })) c.value.ensures.value c.care-2.ensures.value ∙ slot_of_row n row fit))
           ∙ put_left (slot_table_state t) c.args.slot row within fit;
+      rest = drop-set-lt 120 rs c.args.slot _ (omega (arith, table_length n rs));
       memory = ap₂ (λ (v d : ℕ). set rs c.args.slot record { filled = true; value = v; care = d }) c.value.ensures.value c.care-2.ensures.value;
     }
