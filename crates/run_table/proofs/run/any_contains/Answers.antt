@@ -8,7 +8,7 @@ use Rattle.run_table.proofs.run.any_contains.Goals as goal
 pub returns-then-contains : goal.returns-then-contains
 returns-then-contains c =
     let R = c.args.runs.now in
-    let i = c.loop-run.run_index in
+    let i = c.loop-run.run-index in
     let x = c.args.number in
     record {
       value =
@@ -19,9 +19,9 @@ returns-then-contains c =
 pub loop-run-preserved : goal.loop-run-preserved
 loop-run-preserved c =
     let R = c.args.runs.now in
-    let i = c.loop-run.run_index in
+    let i = c.loop-run.run-index in
     let x = c.args.number in
     ap (λ (t : Bool). t || in_ranges (ranges_of (drop (i + 1) R)) x) c.if-contains.ensures.value ∙ sym (ranges_more R i x c.loop-run-test.true) ∙ c.loop-run.invariant
 
 pub returns : goal.returns
-returns c = record { value = sym (ranges_all c.args.runs.now c.loop-run.run_index c.args.number c.loop-run-test.false) ∙ c.loop-run.invariant }
+returns c = record { value = sym (ranges_all c.args.runs.now c.loop-run.run-index c.args.number c.loop-run-test.false) ∙ c.loop-run.invariant }

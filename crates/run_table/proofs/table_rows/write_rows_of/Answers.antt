@@ -11,38 +11,38 @@ use Rattle.run_table.proofs.Tables.{no_run}
 use Rattle.run_table.proofs.TableRows.{rows_more, rows_front, rows_room, part_written}
 use Rattle.run_table.proofs.table_rows.write_rows_of.Goals as goal
 
-pub offset-bounds-memory-next : goal.offset-bounds-memory-next
-offset-bounds-memory-next c =
-    let k = rows_front (places_of c.args.width) c.args.runs.now c.loop-run.run_index in
+pub offset_bounds-memory-next : goal.offset_bounds-memory-next
+offset_bounds-memory-next c =
+    let k = rows_front (places_of c.args.width) c.args.runs.now c.loop-run.run-index in
     let e = c.loop-run.invariant.1 in
     let r = c.requires.room in
     let m = c.loop-run.auto.memory in
     let h : c.loop-run.next ≤ length c.loop-run.memory = omega arith in
     search rules
 
-pub slice-bounds-write-rows-of-run-count : goal.slice-bounds-write-rows-of-run-count
-slice-bounds-write-rows-of-run-count c =
-    let k = rows_front (places_of c.args.width) c.args.runs.now c.loop-run.run_index in
+pub slice_bounds-write_rows_of_run-count : goal.slice_bounds-write_rows_of_run-count
+slice_bounds-write_rows_of_run-count c =
+    let k = rows_front (places_of c.args.width) c.args.runs.now c.loop-run.run-index in
     let e = c.loop-run.invariant.1 in
     let r = c.requires.room in
     let m = c.loop-run.auto.memory in
     omega arith
 
-pub slice-bounds-write-rows-of-run-start : goal.slice-bounds-write-rows-of-run-start
-slice-bounds-write-rows-of-run-start c =
-    let k = rows_front (places_of c.args.width) c.args.runs.now c.loop-run.run_index in
+pub slice_bounds-write_rows_of_run-start : goal.slice_bounds-write_rows_of_run-start
+slice_bounds-write_rows_of_run-start c =
+    let k = rows_front (places_of c.args.width) c.args.runs.now c.loop-run.run-index in
     let e = c.loop-run.invariant.1 in
     let r = c.requires.room in
     let m = c.loop-run.auto.memory in
     let h : c.loop-run.next ≤ length c.loop-run.memory = omega arith in
     search rules
 
-pub write-rows-of-run-next-requires : goal.write-rows-of-run-next-requires
-write-rows-of-run-next-requires c =
+pub write_rows_of_run-next-requires : goal.write_rows_of_run-next-requires
+write_rows_of_run-next-requires c =
     let n = places_of c.args.width in
     let R = c.args.runs.now in
     let L = c.loop-run in
-    let k = rows_room n R L.run_index c.loop-run-test.true in
+    let k = rows_room n R L.run-index c.loop-run-test.true in
     let e = L.invariant.1 in
     let r = c.requires.room in
     let m = L.auto.memory in
@@ -50,17 +50,17 @@ write-rows-of-run-next-requires c =
     let b = length-drop L.next L.memory in
     record { room = omega arith }
 
-pub overflow-add-next : goal.overflow-add-next
-overflow-add-next c =
+pub overflow_add-next : goal.overflow_add-next
+overflow_add-next c =
     let n = places_of c.args.width in
     let R = c.args.runs.now in
     let L = c.loop-run in
-    let k = rows_room n R L.run_index c.loop-run-test.true in
+    let k = rows_room n R L.run-index c.loop-run-test.true in
     let e = L.invariant.1 in
-    let f = c.write-rows-of-run-next.ensures.count in
+    let f = c.write_rows_of_run-next.ensures.count in
     let r = c.requires.room in
     let m = L.auto.memory in
-    let h : L.next + c.write-rows-of-run-next.result ≤ length L.memory = omega arith in
+    let h : L.next + c.write_rows_of_run-next.result ≤ length L.memory = omega arith in
     search rules
 
 pub loop-run-preserved : goal.loop-run-preserved
@@ -68,11 +68,11 @@ loop-run-preserved c =
     let n = places_of c.args.width in
     let R = c.args.runs.now in
     let L = c.loop-run in
-    let i = L.run_index in
+    let i = L.run-index in
     let run = get_or R i no_run in
     let done = rows_of_ranges n (ranges_of (take i R)) in
     let new = rows_in_width n (run.first, run.last) in
-    let w = c.write-rows-of-run-next in
+    let w = c.write_rows_of_run-next in
     let k = rows_room n R i c.loop-run-test.true in
     let r = c.requires.room in
     let m = L.auto.memory in
@@ -92,7 +92,7 @@ returns c =
     let n = places_of c.args.width in
     let R = c.args.runs.now in
     let rows = rows_of_ranges n (ranges_of R) in
-    let all = ap (λ (k : List Run). map words_of (rows_of_ranges n (ranges_of k))) (take_all c.loop-run.run_index R c.loop-run-test.false) in
+    let all = ap (λ (k : List Run). map words_of (rows_of_ranges n (ranges_of k))) (take_all c.loop-run.run-index R c.loop-run-test.false) in
     record {
       rows = c.loop-run.invariant.0 ∙ ap (written c.args.memory.now 0) all ∙
           ap (λ (k : ℕ). map words_of rows ++ drop k c.args.memory.now) (zero-add (length (map words_of rows)) ∙ length-map rows words_of);

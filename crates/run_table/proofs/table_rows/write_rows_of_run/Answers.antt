@@ -22,6 +22,6 @@ returns-in-Err c =
     let m = c.args.memory.now in
     let none = refused n c.args.run.first c.args.run.last (length m) _ c.in-Err.ensures.answer c.requires.room in
     record {
-      rows = c.in-Err.ensures.untouched-when-refused refl ∙ ap (λ (l : List Symbols). map words_of l ++ m) (sym none);
+      rows = c.in-Err.ensures.untouched_when_refused refl ∙ ap (λ (l : List Symbols). map words_of l ++ m) (sym none);
       count = ap length (sym none);
     }

@@ -18,6 +18,6 @@ returns c =
     let g = c.args.first in
     record {
       value = ends_at g
-          (ap₂ (λ (s m : ℕ). (g + s) % 2 ^ 64 % m) c.steps-to-end-steps.ensures.value c.limit.ensures.value ∙
+          (ap₂ (λ (s m : ℕ). (g + s) % 2 ^ 64 % m) c.steps_to_end-steps.ensures.value c.limit.ensures.value ∙
           wrapped n (g + steps_to_end n (set_after R e) (new_lasts n e R) g) (omega arith));
     }

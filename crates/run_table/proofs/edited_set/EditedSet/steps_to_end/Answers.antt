@@ -14,7 +14,7 @@ loop-run-init c =
     let p : ℕ → Bool = ends n (set_after R c.args.self.edit) in
     let d : ℕ → ℕ = steps n c.args.from in
     ap (λ (m : ℕ). least_of p d m (lasts_of R))
-    (c.fewer-steps-fewest.ensures.value ∙ ap₂ (λ (l x : ℕ). cond (p x) (min l (d x)) l) c.limit.ensures.value c.new-last-last.ensures.value)
+    (c.fewer_steps-fewest.ensures.value ∙ ap₂ (λ (l x : ℕ). cond (p x) (min l (d x)) l) c.limit.ensures.value c.new_last-last.ensures.value)
 
 pub loop-run-preserved : goal.loop-run-preserved
 loop-run-preserved c =
@@ -22,8 +22,8 @@ loop-run-preserved c =
     let n = places_of c.args.self.width in
     let p : ℕ → Bool = ends n (set_after R c.args.self.edit) in
     let d : ℕ → ℕ = steps n c.args.from in
-    let i = c.loop-run.run_index in
-    ap (λ (m : ℕ). least_of p d m (lasts_of (drop (i + 1) R))) c.fewer-steps-fewest-in-loop-run.ensures.value ∙
+    let i = c.loop-run.run-index in
+    ap (λ (m : ℕ). least_of p d m (lasts_of (drop (i + 1) R))) c.fewer_steps-fewest-in-loop-run.ensures.value ∙
     sym (at_drop_more (λ l. least_of p d c.loop-run.fewest (lasts_of l)) R i no_run c.loop-run-test.true) ∙ c.loop-run.invariant
 
 pub returns : goal.returns
@@ -32,4 +32,4 @@ returns c =
     let n = places_of c.args.self.width in
     let p : ℕ → Bool = ends n (set_after R c.args.self.edit) in
     let d : ℕ → ℕ = steps n c.args.from in
-    record { value = sym (at_drop_all (λ l. least_of p d c.loop-run.fewest (lasts_of l)) R c.loop-run.run_index c.loop-run-test.false) ∙ c.loop-run.invariant }
+    record { value = sym (at_drop_all (λ l. least_of p d c.loop-run.fewest (lasts_of l)) R c.loop-run.run-index c.loop-run-test.false) ∙ c.loop-run.invariant }

@@ -9,8 +9,8 @@ use Rattle.run_table.proofs.edited_set.EditedSet.write_runs.Goals.{then-run-new,
 
 pub keep-next-requires : goal.keep-next-requires
 keep-next-requires c =
-    let x = c.new-first-new.result in
-    let k = front_few (λ f. ltb f x) c.loop-run.run_index c.args.self.runs.now in
+    let x = c.new_first-new.result in
+    let k = front_few (λ f. ltb f x) c.loop-run.run-index c.args.self.runs.now in
     let m = c.loop-run.invariant.few in
     let h = c.requires.room in
     record { room = omega arith }
@@ -20,9 +20,9 @@ loop-run-preserved c =
     let n = places_of c.args.self.width in
     let e = c.args.self.edit in
     let R = c.args.self.runs.now in
-    let x = c.new-first-new.result in
+    let x = c.new_first-new.result in
     let L = c.loop-run in
-    let i = L.run_index in
+    let i = L.run-index in
     let f = (get_or R i no_run).first in
     let l = filter (λ f. ltb f x) (take i (firsts_of R)) in
     elim c.if-run-new.branch [
@@ -35,8 +35,8 @@ loop-run-preserved c =
 
 pub keep-next-requires-2 : goal.keep-next-requires-2
 keep-next-requires-2 c =
-    let x = c.new-first-new.result in
-    let k = front_few (λ f. ltb f x) c.loop-run.run_index c.args.self.runs.now in
+    let x = c.new_first-new.result in
+    let k = front_few (λ f. ltb f x) c.loop-run.run-index c.args.self.runs.now in
     let m = c.loop-run.invariant.few in
     let h = c.requires.room in
     record { room = omega arith }
@@ -46,20 +46,20 @@ loop-run-2-init c =
     let n = places_of c.args.self.width in
     let e = c.args.self.edit in
     let R = c.args.self.runs.now in
-    let x = c.new-first-new.result in
+    let x = c.new_first-new.result in
     let L = c.loop-run in
-    let l = filter (λ f. ltb f x) (take L.run_index (firsts_of R)) in
+    let l = filter (λ f. ltb f x) (take L.run-index (firsts_of R)) in
     let k = c.keep-next-2 in
-    written_same n e R k.new.out k.result (l ++ x ∷ []) (so_far x R 0) (ap (λ (F : List ℕ). filter (λ f. ltb f x) F ++ x ∷ []) (all_firsts R L.run_index c.loop-run-test.false))
+    written_same n e R k.new.out k.result (l ++ x ∷ []) (so_far x R 0) (ap (λ (F : List ℕ). filter (λ f. ltb f x) F ++ x ∷ []) (all_firsts R L.run-index c.loop-run-test.false))
     (written_more n e R L.out k.new.out L.next k.result l x L.invariant k.ensures.runs k.ensures.at_most_one)
 
 pub keep-next-requires-then-new-run : goal.keep-next-requires-then-new-run
 keep-next-requires-then-new-run c =
-    let x = c.new-first-new.result in
+    let x = c.new_first-new.result in
     let R = c.args.self.runs.now in
     let L = c.loop-run-2 in
-    let f = (get_or R L.run_index no_run).first in
-    let k = so_far_room x R L.run_index c.loop-run-2-test.true (lt-ltb x f c.if-new-run.true) in
+    let f = (get_or R L.run-index no_run).first in
+    let k = so_far_room x R L.run-index c.loop-run-2-test.true (lt-ltb x f c.if-new-run.true) in
     let m = L.invariant.few in
     let h = c.requires.room in
     let a = L.auto.out in
@@ -70,9 +70,9 @@ loop-run-2-preserved c =
     let n = places_of c.args.self.width in
     let e = c.args.self.edit in
     let R = c.args.self.runs.now in
-    let x = c.new-first-new.result in
+    let x = c.new_first-new.result in
     let L = c.loop-run-2 in
-    let i = L.run_index in
+    let i = L.run-index in
     let f = (get_or R i no_run).first in
     elim c.if-new-run.branch [
       | then-new-run w ↦
@@ -90,11 +90,11 @@ returns c =
     let n = places_of c.args.self.width in
     let e = c.args.self.edit in
     let R = c.args.self.runs.now in
-    let x = c.new-first-new.result in
+    let x = c.new_first-new.result in
     let L = c.loop-run-2 in
-    let all = ap (λ (F : List ℕ). filter (λ f. ltb f x) (firsts_of R) ++ x ∷ filter (λ f. ltb x f) F) (all_firsts R L.run_index c.loop-run-2-test.false) in
-    let new = ap (λ (y : ℕ). below_and_above y (firsts_of R)) c.new-first-new.ensures.value in
-    let k = so_far_few x R L.run_index in
+    let all = ap (λ (F : List ℕ). filter (λ f. ltb f x) (firsts_of R) ++ x ∷ filter (λ f. ltb x f) F) (all_firsts R L.run-index c.loop-run-2-test.false) in
+    let new = ap (λ (y : ℕ). below_and_above y (firsts_of R)) c.new_first-new.ensures.value in
+    let k = so_far_few x R L.run-index in
     let m = L.invariant.few in
     let h = c.requires.room in
     record { runs = L.invariant.runs ∙ ap (runs_at n e R) (all ∙ new); within = omega arith }

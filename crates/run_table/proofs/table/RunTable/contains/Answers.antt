@@ -8,5 +8,5 @@ pub returns : goal.returns
 unfolding table_runs
 returns c =
     let x = c.args.number in
-    let e = c.any-contains.ensures.value ∙ ap (λ R. in_ranges (ranges_of R) x) c.standing.ensures.value in
+    let e = c.any_contains.ensures.value ∙ ap (λ R. in_ranges (ranges_of R) x) c.standing.ensures.value in
     record { value = e; in_set = λ n S q h. e ∙ numbers_of n S c.args.self.now q x h }

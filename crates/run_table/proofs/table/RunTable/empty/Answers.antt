@@ -5,4 +5,4 @@ use Rattle.run_table.proofs.table.RunTable.empty.Goals as goal
 
 pub returns : goal.returns
 unfolding table_runs
-returns c = record { runs = refl; of-no-number = of_none }
+returns c = record { runs = refl; of_no_number = of_none }

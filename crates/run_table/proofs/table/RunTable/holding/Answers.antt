@@ -5,4 +5,4 @@ use Rattle.run_table.proofs.table.RunTable.holding.Goals as goal
 
 pub returns : goal.returns
 unfolding table_runs
-returns c = record { runs = ap ranges_of (held_runs c.args.runs.now c.copy-from-slice.new.self _ c.copy-from-slice.ensures.after c.requires.few) }
+returns c = record { runs = ap ranges_of (held_runs c.args.runs.now c.copy_from_slice.new.self _ c.copy_from_slice.ensures.after c.requires.few) }

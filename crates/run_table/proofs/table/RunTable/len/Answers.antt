@@ -7,4 +7,4 @@ returns c =
     let t = c.args.self.now in
     let e = ap length c.standing.ensures.value in
     let h = standing_few t in
-    record { value = e ∙ sym (table_length t); high-bound = omega arith }
+    record { value = e ∙ sym (table_length t); high_bound = omega arith }

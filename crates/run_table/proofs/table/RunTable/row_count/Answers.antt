@@ -9,20 +9,20 @@ use Rattle.run_table.proofs.Tables.{no_run, standing_few}
 use Rattle.run_table.proofs.TableRows.{in_width_few, rows_more, rows_of_its_runs}
 use Rattle.run_table.proofs.table.RunTable.row_count.Goals as goal
 
-pub write-rows-of-run-count-requires : goal.write-rows-of-run-count-requires
-write-rows-of-run-count-requires c =
+pub write_rows_of_run-count-requires : goal.write_rows_of_run-count-requires
+write_rows_of_run-count-requires c =
     let w = c.args.width in
-    let r = get_or c.standing-run-items.result.now c.loop-run.run_index no_run in
+    let r = get_or c.standing-run-items.result.now c.loop-run.run-index no_run in
     let k = in_width_few (places_of w) (r.first, r.last) (places_some w) (places_most w) in
     let e = c.loop-run.invariant.2 in
     record { room = omega arith }
 
-pub overflow-add-count : goal.overflow-add-count
-overflow-add-count c =
+pub overflow_add-count : goal.overflow_add-count
+overflow_add-count c =
     let w = c.args.width in
-    let r = get_or c.standing-run-items.result.now c.loop-run.run_index no_run in
+    let r = get_or c.standing-run-items.result.now c.loop-run.run-index no_run in
     let k = in_width_few (places_of w) (r.first, r.last) (places_some w) (places_most w) in
-    let e = c.write-rows-of-run-count.ensures.count in
+    let e = c.write_rows_of_run-count.ensures.count in
     let m = c.loop-run.invariant.1 in
     let f = standing_few c.args.self.now in
     let s = ap length c.standing-run-items.ensures.value in
@@ -34,13 +34,13 @@ loop-run-preserved c =
     let w = c.args.width in
     let n = places_of w in
     let R = c.standing-run-items.result.now in
-    let i = c.loop-run.run_index in
+    let i = c.loop-run.run-index in
     let r = get_or R i no_run in
     let k = in_width_few n (r.first, r.last) (places_some w) (places_most w) in
-    let e = c.write-rows-of-run-count.ensures.count in
+    let e = c.write_rows_of_run-count.ensures.count in
     let m = c.loop-run.invariant.1 in
     let more = ap length (rows_more n R i c.loop-run-test.true) ∙ length-append (rows_of_ranges n (ranges_of (take i R))) (rows_in_width n (r.first, r.last)) in
-    (ap₂ (λ (a b : ℕ). a + b) c.loop-run.invariant.0 e ∙ sym more, omega arith, c.write-rows-of-run-count.auto.memory ∙ c.loop-run.invariant.2)
+    (ap₂ (λ (a b : ℕ). a + b) c.loop-run.invariant.0 e ∙ sym more, omega arith, c.write_rows_of_run-count.auto.memory ∙ c.loop-run.invariant.2)
 
 pub returns : goal.returns
 unfolding table_runs
@@ -51,6 +51,6 @@ returns c =
     let f = standing_few c.args.self.now in
     let s = ap length c.standing-run-items.ensures.value in
     let b = c.loop-run.auto.run-index-end in
-    let all = take_all c.loop-run.run_index R c.loop-run-test.false ∙ c.standing-run-items.ensures.value in
+    let all = take_all c.loop-run.run-index R c.loop-run-test.false ∙ c.standing-run-items.ensures.value in
     let e = c.loop-run.invariant.0 ∙ ap (λ (k : List Run). length (rows_of_ranges n (ranges_of k))) all in
-    record { value = e; of-set = λ S q. e ∙ ap length (rows_of_its_runs n S (table_runs c.args.self.now) q); high-bound = omega arith }
+    record { value = e; of_set = λ S q. e ∙ ap length (rows_of_its_runs n S (table_runs c.args.self.now) q); high_bound = omega arith }

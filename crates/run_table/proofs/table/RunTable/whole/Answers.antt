@@ -8,4 +8,4 @@ pub returns : goal.returns
 unfolding table_runs
 returns c =
     let e = ap (λ (m : ℕ). (0, m - 1) ∷ []) c.limit.ensures.value in
-    record { runs = e; of-every-number = e ∙ of_all (places_of c.args.width) }
+    record { runs = e; of_every_number = e ∙ of_all (places_of c.args.width) }

@@ -13,23 +13,23 @@ use Rattle.run_table.specs.Tables.{TableOf, ranges_of, table_runs}
 use Rattle.run_table.proofs.TableRows.{rows_of_its_runs, set_rows_long}
 use Rattle.run_table.proofs.table.RunTable.write_rows.Goals as goal
 
-pub write-rows-of-requires : goal.write-rows-of-requires
+pub write_rows_of-requires : goal.write_rows_of-requires
 unfolding table_runs
-write-rows-of-requires c =
-    let k = c.row-count-count.ensures.value in
+write_rows_of-requires c =
+    let k = c.row_count-count.ensures.value in
     let e = ap (λ (R : List Run). length (rows_of_ranges (places_of c.args.width) (ranges_of R))) c.standing.ensures.value in
     record { room = omega arith }
 
 pub returns-then-count-memory : goal.returns-then-count-memory
 returns-then-count-memory c =
     let rows = rows_of_ranges (places_of c.args.width) (table_runs c.args.self.now) in
-    let e = c.row-count-count.ensures.value in
+    let e = c.row_count-count.ensures.value in
     record {
       answer = sym (cond-false _ _ _ (lt-leb (length rows) (length c.args.memory.now) (omega arith)));
       written = tt;
-      by-the-rules = λ S q. tt;
+      by_the_rules = λ S q. tt;
       exact = λ S q. tt;
-      untouched-when-refused = λ _. refl;
+      untouched_when_refused = λ _. refl;
     }
 
 pub returns : goal.returns
@@ -38,20 +38,20 @@ returns c =
     let n = places_of c.args.width in
     let t = c.args.self.now in
     let m = c.args.memory.now in
-    let k = c.row-count-count.result in
+    let k = c.row_count-count.result in
     let rows = rows_of_ranges n (table_runs t) in
-    let e = c.row-count-count.ensures.value in
-    let all : c.write-rows-of.new.memory ≡ map words_of rows ++ drop k m =
-    c.write-rows-of.ensures.rows ∙
+    let e = c.row_count-count.ensures.value in
+    let all : c.write_rows_of.new.memory ≡ map words_of rows ++ drop k m =
+    c.write_rows_of.ensures.rows ∙
     ap (λ (R : List Run). map words_of (rows_of_ranges n (ranges_of R)) ++ drop (length (rows_of_ranges n (ranges_of R))) m) c.standing.ensures.value ∙
     ap (λ (j : ℕ). map words_of rows ++ drop j m) (sym e) in
-    let back : (S : NumberSet) → TableOf n S t → rows_in n k c.write-rows-of.new.memory ≡ rows_of_set n S =
+    let back : (S : NumberSet) → TableOf n S t → rows_in n k c.write_rows_of.new.memory ≡ rows_of_set n S =
     λ S q. ap (rows_in n k) (all ∙ ap (λ (l : List Symbols). map words_of l ++ drop k m) (rows_of_its_runs n S (table_runs t) q)) ∙
-    rows_read n (rows_of_set n S) (drop k m) k (set_rows_long n S) (c.row-count-count.ensures.of-set S q) in
+    rows_read n (rows_of_set n S) (drop k m) k (set_rows_long n S) (c.row_count-count.ensures.of_set S q) in
     record {
       answer = ap Ok e ∙ sym (cond-true _ _ _ (le-leb (length rows) (length m) (omega arith)));
       written = all;
-      by-the-rules = back;
+      by_the_rules = back;
       exact = λ S q. subst (λ r. TakesPrecisely n r S) (sym (back S q)) (set_rows.exact n S);
-      untouched-when-refused = λ z. absurd (both_ways _ refl z);
+      untouched_when_refused = λ z. absurd (both_ways _ refl z);
     }
