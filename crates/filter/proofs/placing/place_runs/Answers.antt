@@ -11,9 +11,9 @@ use Rattle.filter.proofs.placing.place_runs.Goals as goal
 pub loop-i-init : goal.loop-i-init
 loop-i-init g c = (omega arith, λ same proper room. (sym (put_none (g.D.RowDevice.state c.args.device.now) 0), refl))
 
-pub put-run-at-next-requires : goal.put-run-at-next-requires
-put-run-at-next-requires g c =
-    let few = c.len-i-end.ensures.high-bound in
+pub put_run_at-next-requires : goal.put_run_at-next-requires
+put_run_at-next-requires g c =
+    let few = c.len-i-end.ensures.high_bound in
     let low = c.loop-i.invariant.0 in
     record { small = omega arith }
 
@@ -30,17 +30,17 @@ loop-i-preserved g c =
     let few = runs_fewer n rs i in
     let all = runs_fewer n rs (i + 1) in
     let more = ap length step ∙ length-append done (rows_at n rs i) in
-    let bound = c.put-run-at-next.ensures.bound in
+    let bound = c.put_run_at-next.ensures.bound in
     let before = c.loop-i.invariant.0 in (
       omega arith,
       λ same proper room.
           let now = c.loop-i.invariant.1 same proper room in
           let size = ap (λ t. length t.slots) now.0 ∙ slots_length s done (omega arith) in
           let next = now.1 in (
-            c.put-run-at-next.ensures.after (same ∙ sym (ap (λ t. t.width) now.0)) low proper (omega arith) ∙
+            c.put_run_at-next.ensures.after (same ∙ sym (ap (λ t. t.width) now.0)) low proper (omega arith) ∙
                 ap₂ (λ t k. with_slots t k (map slot_with (rows_at n rs i))) now.0 now.1 ∙
                 slots_join s done (rows_at n rs i) (omega arith) ∙ ap (λ l. with_slots s 0 (map slot_with l)) (sym step),
-            c.put-run-at-next.ensures.next low proper ∙ ap (λ k. k + length (rows_at n rs i)) now.1 ∙ sym more,
+            c.put_run_at-next.ensures.next low proper ∙ ap (λ k. k + length (rows_at n rs i)) now.1 ∙ sym more,
           ),
     )
 
@@ -54,6 +54,6 @@ returns g c =
     record {
       after = λ same proper room.
           let now = c.loop-i.invariant.1 same proper room in
-          c.empty-from.ensures.after ∙ ap₂ emptied now.0 now.1 ∙
+          c.empty_from.ensures.after ∙ ap₂ emptied now.0 now.1 ∙
           ap (λ l. emptied (with_slots s 0 (map slot_with l)) (length l)) all ∙ slots_rest s (rows_of_runs n rs) room;
     }

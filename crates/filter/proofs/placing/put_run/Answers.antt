@@ -29,7 +29,7 @@ returns-in-Ok g c =
           let part = scratch_start (map words_of rows) c.rows_of_range.new.memory _ c.min-count.result c.in-Ok.ensures.written (is ∙ count ∙ sym long) in
           let size = ap length part in
           let narrow = subst (λ k. All (λ v. v.care < 2 ^ k) (map words_of rows)) same (words_narrow n rows (range_long n f l)) in
-          c.put-rows.ensures.after (subst (λ q. All (λ v. v.care < 2 ^ s.width) q) (sym part) narrow) (omega arith) ∙
+          c.put_rows.ensures.after (subst (λ q. All (λ v. v.care < 2 ^ s.width) q) (sym part) narrow) (omega arith) ∙
           ap (with_slots s c.args.at) (ap (map slot_read) part ∙ words_read rows);
       next = λ hf hl.
           let count = granted_count w f l c.in-Ok.count c.in-Ok.ensures.answer hf hl in

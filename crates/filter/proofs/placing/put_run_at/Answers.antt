@@ -24,19 +24,19 @@ returns-in-Some g c =
     let f = c.in-Some.first in
     let l = c.in-Some.last in
     record {
-      bound = c.put-run.ensures.bound;
+      bound = c.put_run.ensures.bound;
       after = λ same low proper room.
           let here = taken_out rs i f l c.in-Some.ensures.value low in
           let R = run_at_proper n rs i proper low in
           let e = rows_at_range n rs i f l proper low here in
           let k = ap length e in
-          c.put-run.ensures.after same (subst (λ x. x < 2 ^ n) (ap (λ r. r.0) here) R.first_fits) (subst (λ x. x < 2 ^ n) (ap (λ r. r.1) here) R.last_Fits) (omega arith) ∙
+          c.put_run.ensures.after same (subst (λ x. x < 2 ^ n) (ap (λ r. r.0) here) R.first_fits) (subst (λ x. x < 2 ^ n) (ap (λ r. r.1) here) R.last_fits) (omega arith) ∙
           ap (λ q. with_slots (g.D.RowDevice.state c.args.device.now) c.args.at (map slot_with q)) e;
       next = λ low proper.
           let here = taken_out rs i f l c.in-Some.ensures.value low in
           let R = run_at_proper n rs i proper low in
           let e = rows_at_range n rs i f l proper low here in
-          c.put-run.ensures.next (subst (λ x. x < 2 ^ n) (ap (λ r. r.0) here) R.first_fits) (subst (λ x. x < 2 ^ n) (ap (λ r. r.1) here) R.last_Fits) ∙ ap (λ q. c.args.at + length q) e;
+          c.put_run.ensures.next (subst (λ x. x < 2 ^ n) (ap (λ r. r.0) here) R.first_fits) (subst (λ x. x < 2 ^ n) (ap (λ r. r.1) here) R.last_fits) ∙ ap (λ q. c.args.at + length q) e;
     }
 
 pub returns-in-None : goal.returns-in-None

@@ -15,7 +15,7 @@ loop-exchange-init g c first s h = (first, s, h, refl, refl, refl)
 pub perform-answer-requires : goal.perform-answer-requires
 perform-answer-requires g c =
     let inv = c.loop-exchange.invariant (first_ledger (g.D.RowDevice.state c.args.device) c.args.tag) c.open-filter.ensures.opened refl in
-    record { at-hand = (inv.0, inv.1, inv.2) }
+    record { at_hand = (inv.0, inv.1, inv.2) }
 
 pub loop-exchange-preserved : goal.loop-exchange-preserved
 loop-exchange-preserved g c first s k =
@@ -31,7 +31,7 @@ loop-exchange-preserved g c first s k =
     let same = c.loop-exchange.auto.exchanges in
     let at = c.exchange-item.is in
     let step = c.perform-answer.ensures.step b inv.1 in
-    let hand = c.perform-answer.ensures.at-hand b inv.1 inv.2 in
+    let hand = c.perform-answer.ensures.at_hand b inv.1 inv.2 in
     let answer = step.0 ∙ ap (λ (x : FilterExchange). full_answer b x.call) (sym at) in (
       after_call b e.call,
       subst (λ (x : FilterExchange). StandsFor d c.perform-answer.new.filter (after_call b x.call)) (sym at) step.1,

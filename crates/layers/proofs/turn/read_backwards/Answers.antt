@@ -11,7 +11,7 @@ pub loop-place-preserved : goal.loop-place-preserved
 loop-place-preserved c =
     let i = c.loop-place.place in
     let word = c.args.word in
-    let few : i + 1 ≤ 32 = let p = c.places-places.ensures.high-bound in omega arith in
+    let few : i + 1 ≤ 32 = let p = c.places-places.ensures.high_bound in omega arith in
     let e = ap (λ (k : ℕ). k * 2 + word / 2 ^ i % 2) c.loop-place.invariant.0 ∙ sym (turned_more i word) in
     let f = turned_fits (i + 1) word in
     let m = pow_mono {i = i + 1} {j = 32} few in

@@ -11,46 +11,46 @@ use Rattle.filter.specs.StandsFor.{StandsFor}
 use Rattle.filter.proofs.Edited.{token_fitting, many_rows, granted, after_refused, after_granted, table_refuses, table_grants, slots_known, table_proper}
 use Rattle.filter.proofs.filter.Filter.edit.Goals as goal
 
-pub returns-in-err-runs : goal.returns-in-err-runs
-returns-in-err-runs g c =
+pub returns-in_err-runs : goal.returns-in_err-runs
+returns-in_err-runs g c =
     let self = c.args.self.now in
     let tag = c.args.token.now.tag in
     let e = c.args.edit in
-    let p = err_from_is_err_and c.from-residual.result c.from-residual.ensures.1 in
-    let was = c.in-err-runs.was in
+    let p = err_from_is_err_and c.from_residual.result c.from_residual.ensures.1 in
+    let was = c.in_err-runs.was in
     let is : c.after_edit.result ≡ Err p.0 = cc in
     record {
       step = λ b s.
           let fits = token_fitting b tag (sym s.held ∙ c.if-not-self.false) (c.if-token-self.false ∙ s.tag) in
           let said =
           table_refuses b tag e fits (places_of c.width-width.result) (c.width-width.ensures.answer ∙ s.width) self.runs s.runs c.after_edit.result
-          c.after_edit.ensures.answer-else-left-free c.after_edit.ensures.outside p.0 is in
+          c.after_edit.ensures.answer_else_left_free c.after_edit.ensures.outside p.0 is in
           (p.1 ∙ sym said, subst (StandsFor g.D.RowDevice self) (sym (after_refused b tag e p.0 said)) s);
-      untouched-when-refused = λ _. refl;
-      hold-stays = (refl, refl);
+      untouched_when_refused = λ _. refl;
+      hold_stays = (refl, refl);
     }
 
-pub returns-then-rows-slot-count : goal.returns-then-rows-slot-count
-returns-then-rows-slot-count g c =
+pub returns-then-rows-slot_count : goal.returns-then-rows-slot_count
+returns-then-rows-slot_count g c =
     let self = c.args.self.now in
     let tag = c.args.token.now.tag in
     let e = c.args.edit in
     let n = places_of c.width-width.result in
-    let t = c.in-ok-runs.runs in
+    let t = c.in_ok-runs.runs in
     record {
       step = λ b s.
           let same = c.width-width.ensures.answer ∙ s.width in
           let fits = token_fitting b tag (sym s.held ∙ c.if-not-self.false) (c.if-token-self.false ∙ s.tag) in
           let now =
-          table_grants b tag e fits n same self.runs s.runs c.after_edit.result c.after_edit.ensures.answer-else-left-free c.after_edit.ensures.outside t
-          c.in-ok-runs.was in
+          table_grants b tag e fits n same self.runs s.runs c.after_edit.result c.after_edit.ensures.answer_else_left_free c.after_edit.ensures.outside t
+          c.in_ok-runs.was in
           let rows = edited e b.numbers in
-          let count = c.row-count-rows.ensures.of-set rows (now.1 ∙ ap (λ k. runs k rows) (sym same)) ∙ ap (λ k. length (rows_of_runs k (runs k rows))) same in
+          let count = c.row_count-rows.ensures.of_set rows (now.1 ∙ ap (λ k. runs k rows) (sym same)) ∙ ap (λ k. length (rows_of_runs k (runs k rows))) same in
           let slots = c.slot_count.ensures.answer ∙ slots_known g.D.RowDevice self b s in
           let said = many_rows b tag e fits now.0 now.2 (omega arith) in
           (sym said, subst (StandsFor g.D.RowDevice self) (sym (after_refused b tag e _ said)) s);
-      untouched-when-refused = λ _. refl;
-      hold-stays = (refl, refl);
+      untouched_when_refused = λ _. refl;
+      hold_stays = (refl, refl);
     }
 
 pub returns : goal.returns
@@ -60,23 +60,23 @@ returns g c =
     let tag = c.args.token.now.tag in
     let e = c.args.edit in
     let n = places_of c.width-width.result in
-    let t = c.in-ok-runs.runs in
+    let t = c.in_ok-runs.runs in
     record {
       step = λ b s.
           let same = c.width-width.ensures.answer ∙ s.width in
           let fits = token_fitting b tag (sym s.held ∙ c.if-not-self.false) (c.if-token-self.false ∙ s.tag) in
           let now =
-          table_grants b tag e fits n same self.runs s.runs c.after_edit.result c.after_edit.ensures.answer-else-left-free c.after_edit.ensures.outside t
-          c.in-ok-runs.was in
+          table_grants b tag e fits n same self.runs s.runs c.after_edit.result c.after_edit.ensures.answer_else_left_free c.after_edit.ensures.outside t
+          c.in_ok-runs.was in
           let S = edited e b.numbers in
           let table = now.1 ∙ ap (λ k. runs k S) (sym same) in
-          let count = c.row-count-rows.ensures.of-set S table ∙ ap (λ k. length (rows_of_runs k (runs k S))) same in
+          let count = c.row_count-rows.ensures.of_set S table ∙ ap (λ k. length (rows_of_runs k (runs k S))) same in
           let known = slots_known d self b s in
           let slots = c.slot_count.ensures.answer ∙ known in
           let said = granted b tag e fits now.0 now.2 (omega arith) in
           let rows = ap₂ rows_of_runs same now.1 in
           let long = ap length rows in
-          let after = c.place-runs.ensures.after c.width-width.ensures.answer (table_proper n S t table) (omega arith) in (
+          let after = c.place_runs.ensures.after c.width-width.ensures.answer (table_proper n S t table) (omega arith) in (
             ap Ok count ∙ sym said,
             subst (StandsFor d _) (sym (after_granted b tag e _ said)) record {
               width = ap (λ v. v.width) after ∙ s.width;
@@ -88,6 +88,6 @@ returns g c =
               slots = ap (λ v. v.slots) after ∙ ap₂ placed known rows;
             },
           );
-      untouched-when-refused = λ z. absurd (both_ways _ refl z);
-      hold-stays = (refl, refl);
+      untouched_when_refused = λ z. absurd (both_ways _ refl z);
+      hold_stays = (refl, refl);
     }

@@ -10,7 +10,7 @@ returns g c =
     let count = length s.slots in
     let none = no_rows s.width count c.args.tag in
     let muted = c.mute.ensures.after in
-    let empty = c.empty-from.ensures.after in
+    let empty = c.empty_from.ensures.after in
     record {
       opened = record {
         width = ap (λ t. t.width) muted ∙ ap (λ t. t.width) empty;

@@ -9,17 +9,17 @@ returns g c =
     let carrying = g.M.LineMap.carrying c.args.self.now.map in
     let s = g.D.RowDevice.state c.args.self.now.below in
     record {
-      answer = sym c.in-ok-empty.was ∙ c.empty.ensures.answer ∙ empty_carried carrying s c.args.slot;
+      answer = sym c.in_ok-empty.was ∙ c.empty.ensures.answer ∙ empty_carried carrying s c.args.slot;
       after = ap (layer_state carrying) c.empty.ensures.after ∙ after_empty_carried carrying s c.args.slot;
     }
 
-pub returns-in-err-empty : goal.returns-in-err-empty
-returns-in-err-empty g c =
+pub returns-in_err-empty : goal.returns-in_err-empty
+returns-in_err-empty g c =
     let carrying = g.M.LineMap.carrying c.args.self.now.map in
     let s = g.D.RowDevice.state c.args.self.now.below in
-    let p = err_from_is_err_and c.from-residual.result c.from-residual.ensures.1 in
-    let was = c.in-err-empty.was in
-    let same : c.from-residual.result ≡ c.empty.result = cc in
+    let p = err_from_is_err_and c.from_residual.result c.from_residual.ensures.1 in
+    let was = c.in_err-empty.was in
+    let same : c.from_residual.result ≡ c.empty.result = cc in
     record {
       answer = same ∙ c.empty.ensures.answer ∙ empty_carried carrying s c.args.slot;
       after = ap (layer_state carrying) c.empty.ensures.after ∙ after_empty_carried carrying s c.args.slot;

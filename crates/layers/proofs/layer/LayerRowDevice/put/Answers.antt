@@ -12,23 +12,23 @@ returns g c =
     let w = g.D.RowDevice.lawful c.args.self.now.below in
     let k = g.M.LineMap.carries c.args.self.now.map s.width w.some_place w.few_places in
     let i = c.args.slot in
-    let row = c.row-below-carried.ensures.value in
+    let row = c.row_below-carried.ensures.value in
     record {
-      answer = sym c.in-ok-put.was ∙ c.put.ensures.answer ∙ ap (put_answer s i) row ∙ put_carried carrying s k i c.args.row;
+      answer = sym c.in_ok-put.was ∙ c.put.ensures.answer ∙ ap (put_answer s i) row ∙ put_carried carrying s k i c.args.row;
       after = ap (layer_state carrying) (c.put.ensures.after ∙ ap (after_put s i) row) ∙ after_put_carried carrying s k i c.args.row;
     }
 
-pub returns-in-err-put : goal.returns-in-err-put
-returns-in-err-put g c =
+pub returns-in_err-put : goal.returns-in_err-put
+returns-in_err-put g c =
     let carrying = g.M.LineMap.carrying c.args.self.now.map in
     let s = g.D.RowDevice.state c.args.self.now.below in
     let w = g.D.RowDevice.lawful c.args.self.now.below in
     let k = g.M.LineMap.carries c.args.self.now.map s.width w.some_place w.few_places in
     let i = c.args.slot in
-    let row = c.row-below-carried.ensures.value in
-    let p = err_from_is_err_and c.from-residual.result c.from-residual.ensures.1 in
-    let was = c.in-err-put.was in
-    let same : c.from-residual.result ≡ c.put.result = cc in
+    let row = c.row_below-carried.ensures.value in
+    let p = err_from_is_err_and c.from_residual.result c.from_residual.ensures.1 in
+    let was = c.in_err-put.was in
+    let same : c.from_residual.result ≡ c.put.result = cc in
     record {
       answer = same ∙ c.put.ensures.answer ∙ ap (put_answer s i) row ∙ put_carried carrying s k i c.args.row;
       after = ap (layer_state carrying) (c.put.ensures.after ∙ ap (after_put s i) row) ∙ after_put_carried carrying s k i c.args.row;
