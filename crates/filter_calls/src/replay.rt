@@ -3,7 +3,7 @@ ghost use Rattle.std.specs.Prelude.{◌≡◌, Some};
 ghost use Rattle.filter_calls.specs.declared.call.FilterAnswer.TheVariants.{Rows, Says, Slot, Token};
 ghost use Rattle.filter.specs.Ledger.{Ledger, hold_answer, after_hold, edit_answer, after_edit, release_answer, after_release};
 ghost use Rattle.filter_calls.specs.Promises.{Promise, last_ledger};
-ghost use Rattle.filter_calls.specs.Replays.{after_call, answered_by, full_answer, released_by};
+ghost use Rattle.filter_calls.specs.Replays.{after_call, answered_by, compared, full_answer, ledger_answer, released_by};
 ghost use Rattle.filter.specs.StandsFor.{AtHand, StandsFor};
 
 use super::call::{FilterAnswer, FilterCall, FilterExchange};
@@ -143,7 +143,8 @@ fn perform<D: RowDevice>(
     call: FilterCall,
 ) -> (FilterAnswer, Option<HoldToken>)
     requires at_hand { (b : Ledger) × StandsFor D.RowDevice filter.old b × AtHand b kept }
-    ensures step { (b : Ledger) → StandsFor D.RowDevice filter.old b → (result.0 ≡ full_answer b call) × StandsFor D.RowDevice filter.new (after_call b call) }
+    ensures step { (b : Ledger) → StandsFor D.RowDevice filter.old b → (compared result.0 ≡ ledger_answer b call) × StandsFor D.RowDevice filter.new (after_call b call) }
+    ensures in_full { (b : Ledger) → StandsFor D.RowDevice filter.old b → result.0 ≡ full_answer b call }
     ensures at_hand { (b : Ledger) → StandsFor D.RowDevice filter.old b → AtHand b kept → AtHand (after_call b call) result.1 }
 {
     match call {

@@ -1,9 +1,10 @@
 // Edits: joined runs, the whole circle, too many runs, too many rows.
 use super::calls::{TAG, add, asked, drop};
+use super::finish::finish;
 use device::column_table::ColumnTable;
 use device::device::RowDevice;
 use filter_calls::call::{FilterAnswer, FilterCall, FilterExchange};
-use filter_calls::closing::replay_and_close;
+use filter_calls::replay::replay;
 use rows::refusal::Refusal;
 use rows::row::Row;
 use rows::width::Width;
@@ -22,7 +23,7 @@ fn runs_join_over_the_highest_number(rt: HostRuntime) -> Result<(), Fail> {
         asked(FilterCall::Ask { number: 15 }),
         asked(FilterCall::Ask { number: 2 }),
     ];
-    let device = replay_and_close(device, TAG, &mut exchanges);
+    let device = finish(replay(device, TAG, &mut exchanges));
     assert_eq!(rt; exchanges[0].answer, FilterAnswer::Token { tag: TAG });
     assert_eq!(rt; exchanges[1].answer, FilterAnswer::Rows(1));
     assert_eq!(rt; exchanges[2].answer, FilterAnswer::Rows(2));
@@ -49,7 +50,7 @@ fn the_whole_circle_by_pieces_and_back(rt: HostRuntime) -> Result<(), Fail> {
         asked(drop(4, 2)),
         asked(FilterCall::ReportRun { index: 0 }),
     ];
-    let device = replay_and_close(device, TAG, &mut exchanges);
+    let device = finish(replay(device, TAG, &mut exchanges));
     assert_eq!(rt; exchanges[2].answer, FilterAnswer::Rows(1));
     assert_eq!(rt; exchanges[3].answer, FilterAnswer::Run(Some((0, 15))));
     assert_eq!(rt;
@@ -74,7 +75,7 @@ fn two_runs_keep_their_own_rows(rt: HostRuntime) -> Result<(), Fail> {
         asked(add(5, 5)),
         asked(FilterCall::ReportRun { index: 2 }),
     ];
-    let device = replay_and_close(device, TAG, &mut exchanges);
+    let device = finish(replay(device, TAG, &mut exchanges));
     assert_eq!(rt; exchanges[2].answer, FilterAnswer::Rows(2));
     // a third row has no slot, and nothing changes
     assert_eq!(rt;
@@ -84,13 +85,11 @@ fn two_runs_keep_their_own_rows(rt: HostRuntime) -> Result<(), Fail> {
     assert_eq!(rt; exchanges[4].answer, FilterAnswer::Run(None));
     assert_eq!(rt; device.read(0), Ok(Some(Row::new(0b0000, 0b1100))));
     assert_eq!(rt; device.read(1), Ok(Some(Row::new(0b1000, 0b1100))));
-    // closed while it was held, the device hears again
-    assert_eq!(rt; device.ask(9), Ok(true));
     Ok(())
 }
 
 // A hold, seventeen single numbers added, three apart, and the reports of the last two runs.
-fn seventeen_runs(exchanges: &mut [FilterExchange]) {
+pub(super) fn seventeen_runs(exchanges: &mut [FilterExchange]) {
     for (i, exchange) in exchanges.iter_mut().enumerate() {
         let number = (i % 20) as u64 * 3;
         exchange.call = match i {
@@ -107,7 +106,7 @@ fn seventeen_runs_are_refused(rt: HostRuntime) -> Result<(), Fail> {
     let device = ColumnTable::new(Width::new(6)?, 120);
     let mut exchanges = [asked(FilterCall::Hold); 20];
     seventeen_runs(&mut exchanges);
-    let device = replay_and_close(device, TAG, &mut exchanges);
+    let _ = finish(replay(device, TAG, &mut exchanges));
     assert_eq!(rt; exchanges[16].answer, FilterAnswer::Rows(16));
     assert_eq!(rt;
         exchanges[17].answer,
@@ -115,7 +114,5 @@ fn seventeen_runs_are_refused(rt: HostRuntime) -> Result<(), Fail> {
     );
     assert_eq!(rt; exchanges[18].answer, FilterAnswer::Run(Some((48, 48))));
     assert_eq!(rt; exchanges[19].answer, FilterAnswer::Run(None));
-    assert_eq!(rt; device.read(15), Ok(Some(Row::new(48, 0b111111))));
-    assert_eq!(rt; device.read(16), Ok(None));
     Ok(())
 }

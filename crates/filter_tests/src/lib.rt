@@ -4,7 +4,11 @@
 #[cfg(test)]
 mod calls;
 #[cfg(test)]
+mod closing;
+#[cfg(test)]
 mod edits;
+#[cfg(test)]
+mod finish;
 #[cfg(test)]
 mod piles;
 #[cfg(test)]

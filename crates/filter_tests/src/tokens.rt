@@ -1,9 +1,10 @@
 // Holds, tokens, and questions to a filter that is held.
 use super::calls::asked;
+use super::finish::finish;
 use device::slot_record::SlotRecord;
 use device::slot_table::SlotTable;
 use filter_calls::call::{FilterAnswer, FilterCall};
-use filter_calls::closing::replay_and_close;
+use filter_calls::replay::replay;
 use rows::refusal::Refusal;
 use rows::width::Width;
 use std::test::Fail;
@@ -23,7 +24,7 @@ fn a_filter_that_is_not_held_is_not_edited(rt: HostRuntime) -> Result<(), Fail> 
         asked(FilterCall::Ask { number: 16 }),
         asked(FilterCall::ReportSlot { slot: 4 }),
     ];
-    let _ = replay_and_close(device, 5, &mut exchanges);
+    let _ = finish(replay(device, 5, &mut exchanges));
     assert_eq!(rt;
         exchanges[0].answer,
         FilterAnswer::Refused(Refusal::NotHeld)
@@ -67,7 +68,7 @@ fn foreign_tokens_are_refused(rt: HostRuntime) -> Result<(), Fail> {
         asked(FilterCall::Release { tag: 5 }),
         asked(FilterCall::Hold),
     ];
-    let _ = replay_and_close(device, 5, &mut exchanges);
+    let _ = finish(replay(device, 5, &mut exchanges));
     assert_eq!(rt; exchanges[0].answer, FilterAnswer::Token { tag: 5 });
     assert_eq!(rt;
         exchanges[1].answer,

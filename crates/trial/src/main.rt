@@ -1,13 +1,10 @@
-// A printed account: ranges and their rows, witnesses, packed sheets, a pile of layers, filters over several devices, and
-// what is refused.
+// A printed account: ranges and their rows, witnesses, packed sheets, a pile of layers, and what is refused.
 #![tactic(auto)]
 
 mod piles;
 mod ranges;
-mod replays;
 mod sheets;
 mod show;
-mod talk;
 mod witnesses;
 
 use std::io;
@@ -19,7 +16,5 @@ fn main(rt: HostRuntime) -> io::Result<()> {
     sheets::packed_ranges(&rt)?;
     sheets::unpacked_rows(&rt)?;
     witnesses::rows_and_witnesses(&rt)?;
-    piles::flip_over_turn(&rt)?;
-    replays::two_runs(&rt)?;
-    replays::mixture(&rt)
+    piles::flip_over_turn(&rt)
 }

@@ -32,7 +32,7 @@ loop-exchange-preserved g c first s k =
     let at = c.exchange-item.is in
     let step = c.perform-answer.ensures.step b inv.1 in
     let hand = c.perform-answer.ensures.at_hand b inv.1 inv.2 in
-    let answer = step.0 ∙ ap (λ (x : FilterExchange). full_answer b x.call) (sym at) in (
+    let answer = c.perform-answer.ensures.in_full b inv.1 ∙ ap (λ (x : FilterExchange). full_answer b x.call) (sym at) in (
       after_call b e.call,
       subst (λ (x : FilterExchange). StandsFor d c.perform-answer.new.filter (after_call b x.call)) (sym at) step.1,
       subst (λ (x : FilterExchange). AtHand (after_call b x.call) c.perform-answer.result.1) (sym at) hand,

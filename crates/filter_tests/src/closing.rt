@@ -1,0 +1,30 @@
+// Filters that are closed after their calls: what the device holds then.
+use super::calls::{TAG, add, asked};
+use super::edits::seventeen_runs;
+use device::column_table::ColumnTable;
+use device::device::RowDevice;
+use filter_calls::call::FilterCall;
+use filter_calls::closing::replay_and_close;
+use rows::row::Row;
+use rows::width::Width;
+use std::test::Fail;
+
+#[test]
+fn a_filter_closed_while_held_hears_again(rt: HostRuntime) -> Result<(), Fail> {
+    let device = ColumnTable::new(Width::new(4)?, 2);
+    let mut exchanges = [asked(FilterCall::Hold), asked(add(8, 11))];
+    let device = replay_and_close(device, TAG, &mut exchanges);
+    assert_eq!(rt; device.ask(9), Ok(true));
+    Ok(())
+}
+
+#[test]
+fn sixteen_runs_have_a_row_each(rt: HostRuntime) -> Result<(), Fail> {
+    let device = ColumnTable::new(Width::new(6)?, 120);
+    let mut exchanges = [asked(FilterCall::Hold); 20];
+    seventeen_runs(&mut exchanges);
+    let device = replay_and_close(device, TAG, &mut exchanges);
+    assert_eq!(rt; device.read(15), Ok(Some(Row::new(48, 0b111111))));
+    assert_eq!(rt; device.read(16), Ok(None));
+    Ok(())
+}

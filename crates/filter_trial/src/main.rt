@@ -1,0 +1,13 @@
+// A printed account of filters over several devices: the calls and answers, and what the slots hold afterwards.
+#![tactic(auto)]
+
+mod replays;
+mod show;
+mod talk;
+
+use std::io;
+
+fn main(rt: HostRuntime) -> io::Result<()> {
+    replays::two_runs(&rt)?;
+    replays::mixture(&rt)
+}
