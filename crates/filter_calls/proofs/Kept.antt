@@ -11,7 +11,6 @@ use Rattle.layers.specs.Piles.{Alike, carried_rows}
 use Rattle.layers.proofs.Rivals.{level_alike}
 use Rattle.filter.specs.declared.filter.Filter.{Filter}
 use Rattle.filter.specs.Ledger.{Ledger, ledger_runs, ledger_rows, marked}
-use Rattle.filter.specs.Placement.{placed}
 use Rattle.filter_calls.specs.Promises.{PromiseBeneath, PromiseKept}
 use Rattle.filter.specs.StandsFor.{StandsFor}
 use Rattle.filter.proofs.Placed.{runs_long, rows_placed, ledger_takes}

@@ -1,7 +1,7 @@
 use Rattle.std.proofs.Common.{◌≡◌, ◌<◌, [], ◌∷◌, ◌++◌, map, string_bytes, codes, sym, ap, ◌∙◌, subst, append-nil, arith}
 use lib.Utf8.{encode}
 use Rattle.covers.specs.Symbols.{letter}
-use Rattle.covers.specs.Words.{symbols, symbol_at}
+use Rattle.covers.specs.Words.{symbols}
 use Rattle.lines.proofs.Letters.{letters_more}
 use Rattle.lines.proofs.print.row_line.Goals as goal
 

@@ -5,7 +5,6 @@ use Rattle.covers.specs.Rules.{rows_of_runs}
 use Rattle.circle.specs.Runs.{runs}
 use Rattle.rows.specs.Widths.{places_of}
 use Rattle.run_table.specs.Edits.{edited}
-use Rattle.filter.specs.Ledger.{after_edit}
 use Rattle.filter.specs.Placement.{placed}
 use Rattle.filter.specs.StandsFor.{StandsFor}
 use Rattle.filter.proofs.Edited.{token_fitting, many_rows, granted, after_refused, after_granted, table_refuses, table_grants, slots_known, table_proper}

@@ -1,5 +1,4 @@
 use Rattle.std.proofs.Common.{length, sym, refl, ap, ◌∙◌, arith}
-use Rattle.filter.specs.Ledger.{opened}
 use Rattle.filter.specs.Placement.{placed}
 use Rattle.filter.proofs.Opened.{no_runs, no_rows}
 use Rattle.filter.proofs.filter.Filter.open.Goals as goal
