@@ -1,6 +1,6 @@
 -- Strictly ascending lists of numbers: one is known by its members.
 use Rattle.std.proofs.Common.{◌≡◌, ℕ, zero, suc, ◌^◌, ◌<◌, ◌≤◌, Bool, true, false, cond, ◌⊎◌, List, [], ◌∷◌, ◌++◌, filter, sym, refl, ap, ◌∙◌, subst, ap₂, inl, inr, arith}
-use Rattle.std.specs.List.{ContainsAt as Has, AllByRecursion as All}
+use Rattle.std.specs.List.{ContainsAt as Has, AllByRecursion}
 use Rattle.std.proofs.ByRecursion.{all_kept_by, kept_by_passes}
 use Rattle.std.proofs.lemmas.Bool.{false≢true, cases_lt, and_parts, and_cases}
 use Rattle.covers.specs.Rivals.{Pairs, NumberSet}
@@ -20,7 +20,7 @@ in_from_has [] x h = let k = h.1 in omega arith
 in_from_has (y ∷ l) x (zero, k, e) = inl (sym (e 0))
 in_from_has (y ∷ l) x (suc i, k, e) = inr (in_from_has l x (i, omega arith, e))
 
-pub all_in : (P : ℕ → Type 0) (l : List ℕ) → All P l → (x : ℕ) → In x l → P x
+pub all_in : (P : ℕ → Type 0) (l : List ℕ) → AllByRecursion P l → (x : ℕ) → In x l → P x
 all_in P [] h x i = absurd i
 all_in P (y ∷ l) h x (inl e) = subst P (sym e) h.0
 all_in P (y ∷ l) h x (inr i) = all_in P l h.1 x i
@@ -64,7 +64,7 @@ same_ascending (x ∷ l) (y ∷ k) a b f g =
 
 -- the numbers below k that pass
 module _ (p : ℕ → Bool) where
-  pub passing_below : (k : ℕ) → All (λ x. (x < k) × (p x ≡ true)) (passing p k)
+  pub passing_below : (k : ℕ) → AllByRecursion (λ x. (x < k) × (p x ≡ true)) (passing p k)
   unfolding passing
   passing_below zero = tt
   passing_below (suc k) =
@@ -72,7 +72,7 @@ module _ (p : ℕ → Bool) where
       (all_mono {P = λ x. (x < k) × (p x ≡ true)} {Q = λ x. (x < suc k) × (p x ≡ true)} (λ x h. (let b = h.0 in omega arith, h.1)) (passing p k) (passing_below k))
       (go (p k) refl)
     where
-      go : (t : Bool) → p k ≡ t → All (λ x. (x < suc k) × (p x ≡ true)) (cond t (k ∷ []) [])
+      go : (t : Bool) → p k ≡ t → AllByRecursion (λ x. (x < suc k) × (p x ≡ true)) (cond t (k ∷ []) [])
       go true e = ((omega arith, e), tt)
       go false e = tt
 
@@ -82,7 +82,7 @@ module _ (p : ℕ → Bool) where
   passing_ascends (suc k) = go (p k) (passing_ascends k)
     where
       go : (t : Bool) → Ascending (passing p k) → Ascending (passing p k ++ cond t (k ∷ []) [])
-      go true a = pairs_join (λ x y. x < y) (passing p k) (k ∷ []) a (tt, tt) (all_mono {P = λ x. (x < k) × (p x ≡ true)} {Q = λ x. All (λ y. x < y) (k ∷ [])} (λ x h. (h.0, tt)) (passing p k) (passing_below k))
+      go true a = pairs_join (λ x y. x < y) (passing p k) (k ∷ []) a (tt, tt) (all_mono {P = λ x. (x < k) × (p x ≡ true)} {Q = λ x. AllByRecursion (λ y. x < y) (k ∷ [])} (λ x h. (h.0, tt)) (passing p k) (passing_below k))
       go false a = pairs_join (λ x y. x < y) (passing p k) [] a tt (all_mono {P = λ x. (x < k) × (p x ≡ true)} {Q = λ x. Unit {0}} (λ x h. tt) (passing p k) (passing_below k))
 
   pub passing_has : (k x : ℕ) → x < k → p x ≡ true → In x (passing p k)
@@ -120,18 +120,18 @@ module _ (p : ℕ → Bool) where
       go false b = b
 
   -- an ascending list of numbers below k, all that pass among them: what it keeps are all that pass
-  pub kept_passing : (l : List ℕ) (k : ℕ) → Ascending l → All (λ x. x < k) l → ((x : ℕ) → x < k → p x ≡ true → In x l) → filter p l ≡ passing p k
+  pub kept_passing : (l : List ℕ) (k : ℕ) → Ascending l → AllByRecursion (λ x. x < k) l → ((x : ℕ) → x < k → p x ≡ true → In x l) → filter p l ≡ passing p k
   kept_passing l k a low has =
       same_ascending (filter p l) (passing p k) (kept_ascends l a) (passing_ascends p k)
       (λ x i. passing_has p k x (all_in (λ y. y < k) (filter p l) (all_kept_by p (λ y. y < k) l low) x i) (all_in (λ y. p y ≡ true) (filter p l) (kept_by_passes p l) x i))
       (λ x i. let h = all_in (λ y. (y < k) × (p y ≡ true)) (passing p k) (passing_below p k) x i in kept_in l x (has x h.0 h.1) h.1)
 
-  pub all_kept : (l : List ℕ) → All (λ x. p x ≡ true) l → filter p l ≡ l
+  pub all_kept : (l : List ℕ) → AllByRecursion (λ x. p x ≡ true) l → filter p l ≡ l
   all_kept [] h = refl
   all_kept (y ∷ l) h = rw h.0 (ap (λ k. y ∷ k) (all_kept l h.1))
 
 -- the begins of a set, by a filter of candidates
-module _ (n : ℕ) (S : NumberSet) (candidates : List ℕ) (a : Pairs (λ x y. x < y) candidates) (low : All (λ x. x < 2 ^ n) candidates) where
+module _ (n : ℕ) (S : NumberSet) (candidates : List ℕ) (a : Pairs (λ x y. x < y) candidates) (low : AllByRecursion (λ x. x < 2 ^ n) candidates) where
   pub kept_firsts : ((x : ℕ) → x < 2 ^ n → begins n S x ≡ true → Has candidates x) → filter (begins n S) candidates ≡ passing (begins n S) (2 ^ n)
   kept_firsts has = kept_passing (begins n S) candidates (2 ^ n) a low (λ x h b. in_from_has candidates x (has x h b))
 

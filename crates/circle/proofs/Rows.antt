@@ -1,6 +1,6 @@
 -- The rows of the runs of a set.
 use Rattle.std.proofs.Common.{◌≡◌, ℕ, List, [], ◌∷◌, length, sym, ap, ◌∙◌, subst, inl, inr, arith, pow_pos}
-use Rattle.std.specs.List.{AllByRecursion as All}
+use Rattle.std.specs.List.{AllByRecursion}
 use Rattle.std.proofs.lemmas.List.{append-nil}
 use Rattle.covers.specs.Rules.{rows_of_run, rows_of_runs}
 use Rattle.covers.specs.Rivals.{NumberSet, Shortest}
@@ -14,7 +14,7 @@ use Rattle.circle.proofs.Circle.{before_cases, after_cases}
 use Rattle.circle.proofs.Runs.{are_runs}
 
 -- the numbers right beside a run are outside the set, so they are in no run
-pub untouched : (n : ℕ) (S : NumberSet) (ranges : List (ℕ × ℕ)) → IsRuns n S ranges → All (Untouched n ranges) ranges
+pub untouched : (n : ℕ) (S : NumberSet) (ranges : List (ℕ × ℕ)) → IsRuns n S ranges → AllByRecursion (Untouched n ranges) ranges
 untouched n S ranges R = all_both {P = λ r. Run n r.0 r.1} {Q = Longest n S} {R = Untouched n ranges} (λ r. alone r.0 r.1) ranges R.proper R.longest
   where
     alone : (f l : ℕ) → Run n f l → Longest n S (f, l) → Untouched n ranges (f, l)
@@ -36,7 +36,7 @@ runs_untouched = record {
 }
 
 -- one run
-one_shortest : (n : ℕ) (ranges : List (ℕ × ℕ)) → All (λ r. Run n r.0 r.1) ranges → length ranges ≡ 1 → Shortest n (rows_of_runs n ranges)
+one_shortest : (n : ℕ) (ranges : List (ℕ × ℕ)) → AllByRecursion (λ r. Run n r.0 r.1) ranges → length ranges ≡ 1 → Shortest n (rows_of_runs n ranges)
 one_shortest n [] h e = absurd (omega arith)
 one_shortest n (r ∷ []) h e = subst (Shortest n) (sym (append-nil (rows_of_run n r.0 r.1))) (shortest n r.0 r.1 h.0)
 one_shortest n (r ∷ q ∷ ranges) h e = absurd (omega arith)

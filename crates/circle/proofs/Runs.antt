@@ -1,6 +1,6 @@
 -- The runs of a set are its longest unbroken stretches, and no other list is.
 use Rattle.std.proofs.Common.{◌≡◌, ℕ, ◌+◌, ◌-◌, ◌^◌, ◌<◌, Bool, true, false, cond, List, [], ◌∷◌, map, filter, sym, refl, ap, ◌∙◌, ap₂, inl, inr, arith, pow_pos}
-use Rattle.std.specs.List.{ContainsAt as Has, AllByRecursion as All}
+use Rattle.std.specs.List.{ContainsAt as Has, AllByRecursion}
 use Rattle.std.proofs.lemmas.Bool.{both_ways, false≢true, cases_Bool, cases_lt, or_left}
 use Rattle.covers.specs.Rivals.{NumberSet, in_range, in_ranges, Pairs}
 use Rattle.covers.specs.Theorems.{Run}
@@ -39,7 +39,7 @@ module _ (n : ℕ) (S : NumberSet) (all : (x : ℕ) → x < 2 ^ n → S x ≡ tr
       is_all r (inl e) = e
       is_all r (inr e) = absurd (both_ways (S (before n r.0)) e.0 (all (before n r.0) (before_fits n r.0)))
 
-      go : (ranges : List (ℕ × ℕ)) → in_ranges ranges 0 ≡ true → All (λ r. (r.0 ≡ 0) × (r.1 ≡ 2 ^ n - 1)) ranges → Pairs (λ r q. r.0 < q.0) ranges → ranges ≡ (0, 2 ^ n - 1) ∷ []
+      go : (ranges : List (ℕ × ℕ)) → in_ranges ranges 0 ≡ true → AllByRecursion (λ r. (r.0 ≡ 0) × (r.1 ≡ 2 ^ n - 1)) ranges → Pairs (λ r q. r.0 < q.0) ranges → ranges ≡ (0, 2 ^ n - 1) ∷ []
       go [] c e a = absurd (false≢true c)
       go (r ∷ []) c e a = ap₂ (λ (f l : ℕ). (f, l) ∷ []) e.0.0 e.0.1
       go (r ∷ q ∷ ranges) c e a = let b = a.0.0 in let z = e.1.0.0 in absurd (omega arith)
@@ -62,7 +62,7 @@ module _ (n : ℕ) (S : NumberSet) (z : ℕ) (hz : z < 2 ^ n) (sz : S z ≡ fals
           let b = ahead_fits n f z hf hz in
           both_ways (S z) sz (s.unbroken z hz (le_in_range n f l z hf s.fits hz (omega arith)))
 
-  begins_each : (Q : ℕ × ℕ → Type 0) → ((f : ℕ) → (f < 2 ^ n) × (begins n S f ≡ true) → Q (f, last_from n S f)) → All Q (from_firsts n S)
+  begins_each : (Q : ℕ × ℕ → Type 0) → ((f : ℕ) → (f < 2 ^ n) × (begins n S f ≡ true) → Q (f, last_from n S f)) → AllByRecursion Q (from_firsts n S)
   begins_each Q g = all_map (λ f. (f, last_from n S f)) Q g (firsts n S) (passing_below (begins n S) (2 ^ n))
 
   firsts_cover : (x : ℕ) → x < 2 ^ n → in_ranges (from_firsts n S) x ≡ S x
@@ -137,7 +137,7 @@ module _ (n : ℕ) (S : NumberSet) (z : ℕ) (hz : z < 2 ^ n) (sz : S z ≡ fals
       starts : List ℕ
       starts = map (λ r. r.0) ranges
 
-      begun : All Begins ranges
+      begun : AllByRecursion Begins ranges
       begun = all_both {P = λ r. Run n r.0 r.1 × Longest n S r} {Q = λ r. (x : ℕ) → in_range r.0 r.1 x ≡ true → in_ranges ranges x ≡ true}
           (λ r p f. begins_stretch r.0 r.1 p.0 p.1 (λ x hx i. sym (R.covering x hx) ∙ f x i)) ranges
           (all_both {P = λ r. Run n r.0 r.1} {Q = Longest n S} (λ r p q. (p, q)) ranges R.proper R.longest) (among ranges)
@@ -165,7 +165,7 @@ runs_of_circle n S all = only_circle n S all (runs n S) (are_runs n S)
 
 -- with a number outside it, from any ascending list that has all the begins
 pub runs_of_candidates : (n : ℕ) (S : NumberSet) (z : ℕ) → z < 2 ^ n → S z ≡ false →
-    (candidates : List ℕ) → Pairs (λ x y. x < y) candidates → All (λ x. x < 2 ^ n) candidates →
+    (candidates : List ℕ) → Pairs (λ x y. x < y) candidates → AllByRecursion (λ x. x < 2 ^ n) candidates →
     ((x : ℕ) → x < 2 ^ n → begins n S x ≡ true → Has candidates x) →
     runs n S ≡ map (λ f. (f, last_from n S f)) (filter (begins n S) candidates)
 runs_of_candidates n S z hz sz candidates a low has =

@@ -1,6 +1,6 @@
 -- What the runs of a set are, and the theorems about them.
 use Rattle.std.specs.Prelude.{◌≡◌, ℕ, ◌-◌, ◌^◌, ◌<◌, true, false, ◌⊎◌, List, length}
-use Rattle.std.specs.List.{AllByRecursion as All}
+use Rattle.std.specs.List.{AllByRecursion}
 use Rattle.covers.specs.Rules.{rows_of_runs}
 use Rattle.covers.specs.Rivals.{NumberSet, in_range, in_ranges, Pairs, TakesPrecisely, Shortest, Within}
 use Rattle.covers.specs.Theorems.{Run, Untouched}
@@ -24,10 +24,10 @@ Longest n S r = ((r.0 ≡ 0) × (r.1 ≡ 2 ^ n - 1)) ⊎ ((S (before n r.0) ≡ 
 -- the ranges are the longest unbroken stretches of the set, in ascending order of their first numbers
 pub record IsRuns (n : ℕ) (S : NumberSet) (ranges : List (ℕ × ℕ)) : Type 0 where
   -- both ends of each are on the circle, and one that goes round leaves a number out
-  pub proper : All (λ r. Run n r.0 r.1) ranges
+  pub proper : AllByRecursion (λ r. Run n r.0 r.1) ranges
   -- together they have just the numbers of the set
   pub covering : (x : ℕ) → x < 2 ^ n → in_ranges ranges x ≡ S x
-  pub longest : All (Longest n S) ranges
+  pub longest : AllByRecursion (Longest n S) ranges
   pub ascending : Pairs (λ r q. r.0 < q.0) ranges
 
 -- `runs` are the runs of the set
@@ -44,8 +44,8 @@ RunsOfEqualSets = (n : ℕ) (S T : NumberSet) → ((x : ℕ) → x < 2 ^ n → S
 
 -- the runs do not touch
 pub record RunsUntouched : Type 0 where
-  pub proper : (n : ℕ) (S : NumberSet) → All (λ r. Run n r.0 r.1) (runs n S)
-  pub untouched : (n : ℕ) (S : NumberSet) → All (Untouched n (runs n S)) (runs n S)
+  pub proper : (n : ℕ) (S : NumberSet) → AllByRecursion (λ r. Run n r.0 r.1) (runs n S)
+  pub untouched : (n : ℕ) (S : NumberSet) → AllByRecursion (Untouched n (runs n S)) (runs n S)
 
 -- the rows of k runs take just the set and are at most 2 · k times those of any rival; those of one run are the fewest
 pub record RowsOfRuns : Type 0 where

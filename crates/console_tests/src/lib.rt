@@ -2,6 +2,6 @@
 #![tactic(auto)]
 
 #[cfg(test)]
-mod lines;
+mod parsing;
 #[cfg(test)]
 mod sessions;

@@ -1,6 +1,6 @@
 -- The list of a run, and the lists of several, take just their numbers.
 use Rattle.std.proofs.Common.{◌≡◌, ℕ, ◌^◌, ◌<◌, ◌≤◌, Bool, true, false, ◌&&◌, ◌||◌, leb, List, [], ◌∷◌, refl, ◌∙◌, ap₂}
-use Rattle.std.specs.List.{AllByRecursion as All}
+use Rattle.std.specs.List.{AllByRecursion}
 use Rattle.std.proofs.lemmas.Bool.{leb-true, leb-false}
 use Rattle.covers.specs.Digits.{digits}
 use Rattle.covers.specs.Symbols.{list_takes}
@@ -30,7 +30,7 @@ run_exact n f l r x hx = go (leb f l) refl
     go true e = rw e (straight_takes n f l x r.first_fits r.last_fits hx (leb-true f l e))
     go false e = rw e (round_takes n f l x r.first_fits r.last_fits hx (leb-false f l e))
 
-pub runs_exact : (n : ℕ) (runs : List (ℕ × ℕ)) → All (λ r. Run n r.0 r.1) runs → TakesPrecisely n (rows_of_runs n runs) (in_ranges runs)
+pub runs_exact : (n : ℕ) (runs : List (ℕ × ℕ)) → AllByRecursion (λ r. Run n r.0 r.1) runs → TakesPrecisely n (rows_of_runs n runs) (in_ranges runs)
 runs_exact n [] h x hx = refl
 runs_exact n (r ∷ runs) h x hx =
     taken_append (rows_of_run n r.0 r.1) (rows_of_runs n runs) (digits n x) ∙

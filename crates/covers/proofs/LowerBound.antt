@@ -1,6 +1,6 @@
 -- A list that takes exactly a set has at least as many rows as a witness has numbers.
 use Rattle.std.proofs.Common.{◌≡◌, ℕ, suc, ◌≤◌, Bool, true, false, not, List, [], ◌∷◌, length, filter, refl, ap, ◌∙◌, subst, inl, inr, suc-le-suc, zero-le, arith}
-use Rattle.std.specs.List.{AllByRecursion as All}
+use Rattle.std.specs.List.{AllByRecursion}
 use Rattle.std.proofs.lemmas.Bool.{and_parts, and_from, both_ways, false≢true}
 use Rattle.covers.specs.Digits.{Digits}
 use Rattle.covers.specs.Symbols.{Symbols, admits, takes, list_takes}
@@ -27,12 +27,12 @@ mix_takes (s ∷ r) (x ∷ u) (y ∷ v) (z ∷ w) p q m =
 
 -- no row of the list takes both
 abbrev Split : List Symbols → Digits → Digits → Type 0
-Split l u v = All (λ r. takes r u ≡ true → takes r v ≡ false) l
+Split l u v = AllByRecursion (λ r. takes r u ≡ true → takes r v ≡ false) l
 
 abbrev free : Symbols → Digits → Bool
 free r u = not (takes r u)
 
-keep_all : (r : Symbols) (w : List Digits) → All (λ v. takes r v ≡ false) w → length (filter (free r) w) ≡ length w
+keep_all : (r : Symbols) (w : List Digits) → AllByRecursion (λ v. takes r v ≡ false) w → length (filter (free r) w) ≡ length w
 keep_all r [] h = refl
 keep_all r (v ∷ w) h = rw h.0 (ap suc (keep_all r w h.1))
 
@@ -44,19 +44,19 @@ keep_most r (u ∷ w) h = go (takes r u) refl (keep_most r w h.1)
     go true e ih = rw e (let k = keep_all r w (all_mono {P = λ v. takes r u ≡ true → takes r v ≡ false} {Q = λ v. takes r v ≡ false} (λ v f. f e) w h.0) in omega arith)
     go false e ih = rw e (suc-le-suc ih)
 
-keep_taken : (r : Symbols) (l : List Symbols) (w : List Digits) → All (λ u. list_takes (r ∷ l) u ≡ true) w → All (λ u. list_takes l u ≡ true) (filter (free r) w)
+keep_taken : (r : Symbols) (l : List Symbols) (w : List Digits) → AllByRecursion (λ u. list_takes (r ∷ l) u ≡ true) w → AllByRecursion (λ u. list_takes l u ≡ true) (filter (free r) w)
 keep_taken r l [] h = tt
 keep_taken r l (u ∷ w) h = go (takes r u) refl (keep_taken r l w h.1)
   where
-    go : (t : Bool) → takes r u ≡ t → All (λ v. list_takes l v ≡ true) (filter (free r) w) → All (λ v. list_takes l v ≡ true) (filter (free r) (u ∷ w))
+    go : (t : Bool) → takes r u ≡ t → AllByRecursion (λ v. list_takes l v ≡ true) (filter (free r) w) → AllByRecursion (λ v. list_takes l v ≡ true) (filter (free r) (u ∷ w))
     go true e ih = rw e ih
     go false e ih = rw e (rw e at h.0, ih)
 
-keep_every : (P : Digits → Type 0) (r : Symbols) (w : List Digits) → All P w → All P (filter (free r) w)
+keep_every : (P : Digits → Type 0) (r : Symbols) (w : List Digits) → AllByRecursion P w → AllByRecursion P (filter (free r) w)
 keep_every P r [] h = tt
 keep_every P r (u ∷ w) h = go (takes r u) refl (keep_every P r w h.1)
   where
-    go : (t : Bool) → takes r u ≡ t → All P (filter (free r) w) → All P (filter (free r) (u ∷ w))
+    go : (t : Bool) → takes r u ≡ t → AllByRecursion P (filter (free r) w) → AllByRecursion P (filter (free r) (u ∷ w))
     go true e ih = rw e ih
     go false e ih = rw e (h.0, ih)
 
@@ -68,7 +68,7 @@ keep_pairs R r (u ∷ w) h = go (takes r u) refl (keep_pairs R r w h.1)
     go true e ih = rw e ih
     go false e ih = rw e (keep_every (R u) r w h.0, ih)
 
-pigeon : (l : List Symbols) (w : List Digits) → All (λ u. list_takes l u ≡ true) w → Pairs (Split l) w → length w ≤ length l
+pigeon : (l : List Symbols) (w : List Digits) → AllByRecursion (λ u. list_takes l u ≡ true) w → Pairs (Split l) w → length w ≤ length l
 pigeon [] [] h p = zero-le
 pigeon [] (u ∷ w) h p = absurd (false≢true h.0)
 pigeon (r ∷ l) w h p =
@@ -78,11 +78,11 @@ pigeon (r ∷ l) w h p =
     omega arith
 
 -- a row of the list that takes z makes the list take z
-member : (l : List Symbols) (z : Digits) → list_takes l z ≡ false → All (λ r. takes r z ≡ false) l
+member : (l : List Symbols) (z : Digits) → list_takes l z ≡ false → AllByRecursion (λ r. takes r z ≡ false) l
 member [] z h = tt
 member (r ∷ l) z h = go (takes r z) refl (λ k. member l z k)
   where
-    go : (t : Bool) → takes r z ≡ t → (list_takes l z ≡ false → All (λ q. takes q z ≡ false) l) → (takes r z ≡ false) × All (λ q. takes q z ≡ false) l
+    go : (t : Bool) → takes r z ≡ t → (list_takes l z ≡ false → AllByRecursion (λ q. takes q z ≡ false) l) → (takes r z ≡ false) × AllByRecursion (λ q. takes q z ≡ false) l
     go true e f = absurd (both_ways (list_takes (r ∷ l) z) h (rw e))
     go false e f = (e, f (rw e at h))
 

@@ -1,6 +1,6 @@
 -- Two numbers that stand outside a set, each with one digit turned: when such numbers are parted.
 use Rattle.std.proofs.Common.{◌≡◌, ℕ, zero, suc, ◌+◌, ◌*◌, ◌/◌, ◌%◌, ◌^◌, ◌<◌, ◌≤◌, Bool, true, false, cond, ◌⊎◌, List, [], ◌∷◌, ◌++◌, sym, refl, ap, ◌∙◌, subst, inl, inr, mod-lt, arith, pow_pos}
-use Rattle.std.specs.List.{AllByRecursion as All}
+use Rattle.std.specs.List.{AllByRecursion}
 use Rattle.std.proofs.lemmas.Nat.{shr_high, mod_low}
 use Rattle.std.proofs.lemmas.Bool.{cases_lt, cases_eq, both_ways, ltb-true, ltb-false}
 use Rattle.covers.specs.Digits.{digit, digits}
@@ -96,7 +96,7 @@ module _ (n : ℕ) (S : NumberSet) (before after : ℕ) where
 
     -- members that are turned below place p, any two of which are parted
     pub record Sound (m p : ℕ) (numbers : List ℕ) : Type 0 where
-      pub each : All (TurnedBelow m p) numbers
+      pub each : AllByRecursion (TurnedBelow m p) numbers
       pub apart : Pairs (Parted n S) numbers
 
     pub sound_none : (m p : ℕ) → Sound m p []
@@ -129,35 +129,35 @@ module _ (n : ℕ) (S : NumberSet) (before after : ℕ) where
         (raised_in : (q : ℕ) → q < w → digit q before ≡ false → Member (turned q before))
         (lowered_in : (q : ℕ) → q < w → digit q after ≡ true → Member (turned q after))
         (deep : (r : ℕ) → r ≤ m → after % 2 ^ r ≤ before % 2 ^ r → Deep r) where
-      each_raised : (p : ℕ) → p ≤ w → Sound m p (each_turned false p before) × All (λ x. (q : ℕ) × Raised m q x) (each_turned false p before)
+      each_raised : (p : ℕ) → p ≤ w → Sound m p (each_turned false p before) × AllByRecursion (λ x. (q : ℕ) × Raised m q x) (each_turned false p before)
       each_raised zero h = (sound_none m 0, tt)
       each_raised (suc p) h = go (digit p before) refl (each_raised p (omega arith))
         where
-          go : (t : Bool) → digit p before ≡ t → Sound m p (each_turned false p before) × All (λ x. (q : ℕ) × Raised m q x) (each_turned false p before) →
-              Sound m (suc p) (each_turned false (suc p) before) × All (λ x. (q : ℕ) × Raised m q x) (each_turned false (suc p) before)
+          go : (t : Bool) → digit p before ≡ t → Sound m p (each_turned false p before) × AllByRecursion (λ x. (q : ℕ) × Raised m q x) (each_turned false p before) →
+              Sound m (suc p) (each_turned false (suc p) before) × AllByRecursion (λ x. (q : ℕ) × Raised m q x) (each_turned false (suc p) before)
           go true e ih =
               let is = sym (each_turned_other false p before (ap (λ t. alike t false) e)) in
-              (subst (Sound m (suc p)) is (sound_wider m p (suc p) (each_turned false p before) (omega arith) ih.0), subst (All (λ x. (q : ℕ) × Raised m q x)) is ih.1)
+              (subst (Sound m (suc p)) is (sound_wider m p (suc p) (each_turned false p before) (omega arith) ih.0), subst (AllByRecursion (λ x. (q : ℕ) × Raised m q x)) is ih.1)
           go false e ih =
               let R = raised_side m p e in
               let i = raised_in p (omega arith) e in
               let is = sym (each_turned_one false p before (ap (λ t. alike t false) e)) in
-              (subst (Sound m (suc p)) is (sound_more m p (turned p before) (each_turned false p before) i (inl R) ih.0), subst (All (λ x. (q : ℕ) × Raised m q x)) is ((p, R), ih.1))
+              (subst (Sound m (suc p)) is (sound_more m p (turned p before) (each_turned false p before) i (inl R) ih.0), subst (AllByRecursion (λ x. (q : ℕ) × Raised m q x)) is ((p, R), ih.1))
 
-      each_lowered : (p r : ℕ) → p ≤ w → p ≤ r → r ≤ m → Deep r → Sound m p (each_turned true p after) × All (λ x. (q : ℕ) × Lowered m q x) (each_turned true p after)
+      each_lowered : (p r : ℕ) → p ≤ w → p ≤ r → r ≤ m → Deep r → Sound m p (each_turned true p after) × AllByRecursion (λ x. (q : ℕ) × Lowered m q x) (each_turned true p after)
       each_lowered zero r h k l d = (sound_none m 0, tt)
       each_lowered (suc p) r h k l d = go (digit p after) refl (each_lowered p r (omega arith) (omega arith) l d)
         where
-          go : (t : Bool) → digit p after ≡ t → Sound m p (each_turned true p after) × All (λ x. (q : ℕ) × Lowered m q x) (each_turned true p after) →
-              Sound m (suc p) (each_turned true (suc p) after) × All (λ x. (q : ℕ) × Lowered m q x) (each_turned true (suc p) after)
+          go : (t : Bool) → digit p after ≡ t → Sound m p (each_turned true p after) × AllByRecursion (λ x. (q : ℕ) × Lowered m q x) (each_turned true p after) →
+              Sound m (suc p) (each_turned true (suc p) after) × AllByRecursion (λ x. (q : ℕ) × Lowered m q x) (each_turned true (suc p) after)
           go false e ih =
               let is = sym (each_turned_other true p after (ap (λ t. alike t true) e)) in
-              (subst (Sound m (suc p)) is (sound_wider m p (suc p) (each_turned true p after) (omega arith) ih.0), subst (All (λ x. (q : ℕ) × Lowered m q x)) is ih.1)
+              (subst (Sound m (suc p)) is (sound_wider m p (suc p) (each_turned true p after) (omega arith) ih.0), subst (AllByRecursion (λ x. (q : ℕ) × Lowered m q x)) is ih.1)
           go true e ih =
               let L : Lowered m p (turned p after) = record { is = refl; one = e; reach = inr (r, omega arith, l, d) } in
               let i = lowered_in p (omega arith) e in
               let is = sym (each_turned_one true p after (ap (λ t. alike t true) e)) in
-              (subst (Sound m (suc p)) is (sound_more m p (turned p after) (each_turned true p after) i (inr L) ih.0), subst (All (λ x. (q : ℕ) × Lowered m q x)) is ((p, L), ih.1))
+              (subst (Sound m (suc p)) is (sound_more m p (turned p after) (each_turned true p after) i (inr L) ih.0), subst (AllByRecursion (λ x. (q : ℕ) × Lowered m q x)) is ((p, L), ih.1))
 
       -- both together, where the last p digits of the number after are no higher
       both_turned : (p : ℕ) → p ≤ w → p ≤ m → after % 2 ^ p ≤ before % 2 ^ p → Sound m p (each_turned false p before ++ each_turned true p after)

@@ -1,6 +1,6 @@
 -- Every row of a list has a symbol for each digit.
 use Rattle.std.proofs.Common.{◌≡◌, ℕ, suc, Bool, true, false, leb, List, [], ◌∷◌, ◌++◌, map, length, sym, refl, ap, ◌∙◌, arith}
-use Rattle.std.specs.List.{AllByRecursion as All}
+use Rattle.std.specs.List.{AllByRecursion}
 use Rattle.std.proofs.lemmas.List.{length-map}
 use Rattle.covers.specs.declared.symbol.Symbol.{Symbol}
 use Rattle.covers.specs.declared.symbol.Symbol.TheVariants.{Zero, One, Dash}
@@ -13,7 +13,7 @@ use Rattle.covers.proofs.Order.{same_next, same_mirror}
 use Rattle.covers.proofs.Numbers.{same_length, same_digits, length_digits}
 
 abbrev pub Long : ℕ → List Symbols → Type 0
-Long n rows = All (λ r. length r ≡ n) rows
+Long n rows = AllByRecursion (λ r. length r ≡ n) rows
 
 pub long_map : (f : Symbols → Symbols) (n k : ℕ) → ((r : Symbols) → length r ≡ n → length (f r) ≡ k) → (rows : List Symbols) → Long n rows → Long k (map f rows)
 long_map f n k g rows h = all_map f (λ r. length r ≡ k) g rows h

@@ -1,6 +1,6 @@
 -- No list that takes just the numbers of a run is shorter than ours; and the same, up to a factor, for several runs.
 use Rattle.std.proofs.Common.{◌≡◌, ℕ, suc, ◌+◌, ◌*◌, ◌^◌, ◌<◌, ◌≤◌, Bool, true, false, leb, List, [], ◌∷◌, map, length, sym, refl, ap, ◌∙◌, subst, inl, inr, add-mul, add_comm, mul-suc, arith}
-use Rattle.std.specs.List.{AllByRecursion as All}
+use Rattle.std.specs.List.{AllByRecursion}
 use Rattle.std.proofs.lemmas.List.{length-map, length-append}
 use Rattle.std.proofs.lemmas.Bool.{or_left, or_right, leb-true, leb-false}
 use Rattle.covers.specs.Digits.{Digits, digits, value, all_ones, all_zeros, next}
@@ -48,7 +48,7 @@ shortest n f l r other R =
     (lower_bound n (in_range f l) W.0 other W.2 (λ x hx. R.same_numbers x hx ∙ run_exact n f l r x hx))
 
 -- several runs
-module _ (n : ℕ) (runs : List (ℕ × ℕ)) (all : All (λ r. Run n r.0 r.1) runs) where
+module _ (n : ℕ) (runs : List (ℕ × ℕ)) (all : AllByRecursion (λ r. Run n r.0 r.1) runs) where
   -- a number in no run is not taken
   not_taken : (u : Digits) → Same (digits n 0) u → in_ranges runs (value u) ≡ false → list_takes (rows_of_runs n runs) u ≡ false
   not_taken u s out =
@@ -88,7 +88,7 @@ module _ (n : ℕ) (runs : List (ℕ × ℕ)) (all : All (λ r. Run n r.0 r.1) r
           (λ w t k. among w (rw e (round_exact (digits n f) (digits n l) s o w (same_trans (digits n f) (digits n 0) w (same_digits n f 0) t) ∙ k))))
 
 -- each run's numbers are among those of all
-among : (n : ℕ) (runs : List (ℕ × ℕ)) → All (λ r. (w : Digits) → list_takes (rows_of_run n r.0 r.1) w ≡ true → list_takes (rows_of_runs n runs) w ≡ true) runs
+among : (n : ℕ) (runs : List (ℕ × ℕ)) → AllByRecursion (λ r. (w : Digits) → list_takes (rows_of_run n r.0 r.1) w ≡ true → list_takes (rows_of_runs n runs) w ≡ true) runs
 among n [] = tt
 among n (r ∷ runs) = (
   (λ w h. taken_append (rows_of_run n r.0 r.1) (rows_of_runs n runs) w ∙ or_left (list_takes (rows_of_run n r.0 r.1) w) (list_takes (rows_of_runs n runs) w) h),
@@ -97,7 +97,7 @@ among n (r ∷ runs) = (
       (λ q f w h. taken_append (rows_of_run n r.0 r.1) (rows_of_runs n runs) w ∙ or_right (list_takes (rows_of_run n r.0 r.1) w) (list_takes (rows_of_runs n runs) w) (f w h)) runs (among n runs),
 )
 
-total : (n k : ℕ) (runs : List (ℕ × ℕ)) → All (λ r. length (rows_of_run n r.0 r.1) ≤ 2 * k) runs → length (rows_of_runs n runs) ≤ 2 * length runs * k
+total : (n k : ℕ) (runs : List (ℕ × ℕ)) → AllByRecursion (λ r. length (rows_of_run n r.0 r.1) ≤ 2 * k) runs → length (rows_of_runs n runs) ≤ 2 * length runs * k
 total n k [] h = omega arith
 total n k (r ∷ runs) h =
     let h1 = total n k runs h.1 in
@@ -106,7 +106,7 @@ total n k (r ∷ runs) h =
     let h4 : 2 * suc (length runs) * k ≡ 2 * k + 2 * length runs * k = ap (λ j. j * k) (mul-suc 2 (length runs)) ∙ add-mul (2 * length runs) 2 k ∙ add_comm (2 * length runs * k) (2 * k) in
     omega arith
 
-pub bounded : (n : ℕ) (runs : List (ℕ × ℕ)) → All (λ r. Run n r.0 r.1) runs → All (Untouched n runs) runs → Within (length runs) n (rows_of_runs n runs)
+pub bounded : (n : ℕ) (runs : List (ℕ × ℕ)) → AllByRecursion (λ r. Run n r.0 r.1) runs → AllByRecursion (Untouched n runs) runs → Within (length runs) n (rows_of_runs n runs)
 bounded n runs all un other R =
     let ex : Exact (digits n 0) (list_takes (rows_of_runs n runs)) other = λ u s.
     ap (list_takes other) (sym (of_value n 0 u s)) ∙ R.same_numbers (value u) (value_fits n 0 u s) ∙ ap (list_takes (rows_of_runs n runs)) (of_value n 0 u s) in

@@ -1,7 +1,7 @@
 -- The numbers of a range are a witness of it.
 use Rattle.std.proofs.Common.{◌≡◌, ℕ, zero, suc, ◌+◌, ◌-◌, ◌*◌, ◌/◌, ◌%◌, ◌^◌, ◌<◌, ◌≤◌, Bool, true, false, cond, eqb, leb, ◌⊎◌, List, [], ◌∷◌, sym, refl, ap, ◌∙◌, subst, inl, inr, mod-lt, mod-eq_of_lt, add-mul, arith, pow_pos}
 use native.Mathlib.Nat.{mod_self, mod-eq-sub-mod}
-use Rattle.std.specs.List.{AllByRecursion as All}
+use Rattle.std.specs.List.{AllByRecursion}
 use Rattle.std.proofs.lemmas.Nat.{shr_split, shr_high, div_below}
 use Rattle.std.proofs.lemmas.Bool.{cases_lt, eqb-false, leb-true, leb-false, le-leb, lt-leb, ltb-true}
 use Rattle.std.proofs.lemmas.Bool.Decides.{nat_tests}
@@ -82,12 +82,12 @@ module _ (n : ℕ) (S : NumberSet) (before after : ℕ) (hb : before < 2 ^ n) (h
           (omega arith, inside (turned m before) (omega arith) up)
 
   between_sound : (p : ℕ) → p ≤ n → before / 2 ^ p ≡ after / 2 ^ p →
-      All (λ x. (x < 2 ^ n) × (S x ≡ true)) (numbers_beside false p before after) × Pairs (Parted n S) (numbers_beside false p before after)
+      AllByRecursion (λ x. (x < 2 ^ n) × (S x ≡ true)) (numbers_beside false p before after) × Pairs (Parted n S) (numbers_beside false p before after)
   between_sound zero h same = (tt, tt)
   between_sound (suc p) h same = go (digit p before) (digit p after) refl refl (λ s. between_sound p (omega arith) s)
     where
       Goal : List ℕ → Type 0
-      Goal l = All (λ x. (x < 2 ^ n) × (S x ≡ true)) l × Pairs (Parted n S) l
+      Goal l = AllByRecursion (λ x. (x < 2 ^ n) × (S x ≡ true)) l × Pairs (Parted n S) l
 
       shared : digit p before ≡ digit p after → alike (digit p before) (digit p after) ≡ true → (before / 2 ^ p ≡ after / 2 ^ p → Goal (numbers_beside false p before after)) → Goal (numbers_beside false (suc p) before after)
       shared k e ih = subst Goal (sym (beside_shared p before after e)) (ih (equal_heads p before after same k))

@@ -1,6 +1,6 @@
 -- The words of the proofs: numbers of as many digits, mixes, clashes, witnesses.
 use Rattle.std.proofs.Common.{◌≡◌, ℕ, suc, Bool, true, false, ◌&&◌, ◌||◌, ◌⊎◌, List, [], ◌∷◌, map, length, refl, ap, ◌∙◌, inl, inr}
-use Rattle.std.specs.List.{AllByRecursion as All}
+use Rattle.std.specs.List.{AllByRecursion}
 use Rattle.std.proofs.lemmas.List.{length-map}
 use Rattle.covers.specs.Digits.{Digits, leq, next, mirror}
 use Rattle.covers.specs.Symbols.{Symbols, list_takes}
@@ -50,7 +50,7 @@ Clash S u v = (z : Digits) × Mix u v z × (S z ≡ false)
 -- k numbers of as many digits as n, each with P, any two with R
 pub record Witness (n : Digits) (P : Digits → Type 0) (R : Digits → Digits → Type 0) (k : ℕ) : Type 0 where
   pub these : List Digits
-  pub each : All (λ w. Same n w × P w) these
+  pub each : AllByRecursion (λ w. Same n w × P w) these
   pub apart : Pairs R these
   pub count : length these ≡ k
 

@@ -1,6 +1,6 @@
 -- What it means that a list is exact, that it is shortest, and what a witness is.
 use Rattle.std.specs.Prelude.{◌≡◌, ℕ, ◌*◌, ◌^◌, ◌<◌, ◌≤◌, Bool, true, false, cond, ◌&&◌, ◌||◌, List, [], ◌∷◌, length, nat_le}
-use Rattle.std.specs.List.{AllByRecursion as All}
+use Rattle.std.specs.List.{AllByRecursion}
 use Rattle.covers.specs.declared.symbol.Symbol.TheVariants.{Zero, One, Dash}
 use Rattle.covers.specs.Digits.{Digits, digits}
 use Rattle.covers.specs.Symbols.{Symbols, takes, list_takes}
@@ -24,7 +24,7 @@ TakesPrecisely n rows S = (x : ℕ) → x < 2 ^ n → list_takes rows (digits n 
 
 -- a list of rows of the width that takes the same numbers
 pub record Rival (n : ℕ) (rows other : List Symbols) : Type 0 where
-  pub of_width : All (λ r. length r ≡ n) other
+  pub of_width : AllByRecursion (λ r. length r ≡ n) other
   pub same_numbers : TakesPrecisely n other (λ x. list_takes rows (digits n x))
 
 -- no rival is shorter
@@ -47,7 +47,7 @@ narrowest (true ∷ u) (true ∷ v) = One ∷ narrowest u v
 -- any two of the list, the earlier first
 abbrev pub Pairs : {X : Type 0} → (X → X → Type 0) → List X → Type 0
 Pairs R [] = Unit {0}
-Pairs R (x ∷ l) = All (R x) l × Pairs R l
+Pairs R (x ∷ l) = AllByRecursion (R x) l × Pairs R l
 
 -- the narrowest row that takes x and y also takes a number outside the set
 abbrev pub Parted : ℕ → NumberSet → ℕ → ℕ → Type 0
@@ -55,5 +55,5 @@ Parted n S x y = (z : ℕ) × (z < 2 ^ n) × (takes (narrowest (digits n x) (dig
 
 -- members of the set, any two of which are parted: each row of an exact list takes at most one of them
 pub record Witness (n : ℕ) (S : NumberSet) (numbers : List ℕ) : Type 0 where
-  pub members : All (λ x. (x < 2 ^ n) × (S x ≡ true)) numbers
+  pub members : AllByRecursion (λ x. (x < 2 ^ n) × (S x ≡ true)) numbers
   pub parted : Pairs (Parted n S) numbers

@@ -1,6 +1,6 @@
 -- The theorems, in numbers.
 use Rattle.std.specs.Prelude.{◌≡◌, ℕ, ◌+◌, ◌^◌, ◌<◌, ◌≤◌, false, ◌⊎◌, List, length, ◌==◌, bit_and}
-use Rattle.std.specs.List.{AllByRecursion as All}
+use Rattle.std.specs.List.{AllByRecursion}
 use Rattle.covers.specs.Digits.{Digits, digits, value}
 use Rattle.covers.specs.Symbols.{Symbols, takes}
 use Rattle.covers.specs.Words.{value_word, care_word, symbols}
@@ -56,6 +56,6 @@ Untouched n runs r = (x : ℕ) → x < 2 ^ n → (x + 1 ≡ r.0) ⊎ (x ≡ r.1 
 
 -- the lists of k runs that do not touch take just the numbers of the runs, and have at most 2 · k times the rows of any rival
 pub record SeveralRuns : Type 0 where
-  pub exact : (n : ℕ) (runs : List (ℕ × ℕ)) → All (λ r. Run n r.0 r.1) runs → TakesPrecisely n (rows_of_runs n runs) (in_ranges runs)
-  pub bounded : (n : ℕ) (runs : List (ℕ × ℕ)) → All (λ r. Run n r.0 r.1) runs → All (Untouched n runs) runs →
+  pub exact : (n : ℕ) (runs : List (ℕ × ℕ)) → AllByRecursion (λ r. Run n r.0 r.1) runs → TakesPrecisely n (rows_of_runs n runs) (in_ranges runs)
+  pub bounded : (n : ℕ) (runs : List (ℕ × ℕ)) → AllByRecursion (λ r. Run n r.0 r.1) runs → AllByRecursion (Untouched n runs) runs →
       Within (length runs) n (rows_of_runs n runs)

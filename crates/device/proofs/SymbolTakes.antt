@@ -1,7 +1,7 @@
 -- What the slots take, by the symbols of their rows.
 use Rattle.std.proofs.Common.{◌≡◌, ℕ, ◌^◌, ◌<◌, ◌||◌, List, [], ◌∷◌, Some, None, sym, refl, ap₂, arith}
 use lib.Bits.{and_le_r}
-use Rattle.std.specs.List.{AllByRecursion as All}
+use Rattle.std.specs.List.{AllByRecursion}
 use Rattle.covers.specs.Digits.{digits}
 use Rattle.covers.specs.Symbols.{takes, list_takes}
 use Rattle.covers.proofs.RowWords.{words_take}
@@ -15,7 +15,7 @@ row_by_symbols n r x h =
     let e = r.clean in
     sym (words_take n r.value r.care x (omega arith) h r.clean)
 
-pub slots_by_symbols : (n : ℕ) (slots : List Slot) (x : ℕ) → All (SlotWithin n) slots → some_slot_takes slots x ≡ list_takes (rows_in n slots) (digits n x)
+pub slots_by_symbols : (n : ℕ) (slots : List Slot) (x : ℕ) → AllByRecursion (SlotWithin n) slots → some_slot_takes slots x ≡ list_takes (rows_in n slots) (digits n x)
 slots_by_symbols n [] x h = refl
 slots_by_symbols n (Some r ∷ slots) x h = ap₂ ◌||◌ (row_by_symbols n r x h.0) (slots_by_symbols n slots x h.1)
 slots_by_symbols n (None ∷ slots) x h = slots_by_symbols n slots x h.1

@@ -1,7 +1,7 @@
 -- That the meaning of a column table is lawful.
 use Rattle.std.specs.Prelude.{◌≡◌, ℕ, zero, suc, ◌^◌, ◌<◌, List, [], ◌∷◌, map, length, Some, None, Option, slice_index_or, refl}
 use Rattle.std.proofs.Common.{ap, arith}
-use Rattle.std.specs.List.{range_with_len, AllByRecursion as All}
+use Rattle.std.specs.List.{range_with_len, AllByRecursion}
 use Rattle.std.proofs.lemmas.List.FromFn.{length-map-range_with_len}
 use Rattle.covers.specs.declared.symbol.Symbol.{Symbol}
 use Rattle.covers.specs.Symbols.{Symbols}
@@ -35,7 +35,7 @@ unfolding row_made
 slot_within n (Some r) h = let f = care_word_fits r in let e = ap (λ k. 2 ^ k) h in let fits : care_word r < 2 ^ n = omega arith in fits
 slot_within n None h = tt
 
-slots_within : (n : ℕ) (columns : List Column) (slots : List ℕ) → All (SlotWithin n) (map (column_slot n columns) slots)
+slots_within : (n : ℕ) (columns : List Column) (slots : List ℕ) → AllByRecursion (SlotWithin n) (map (column_slot n columns) slots)
 unfolding column_slot
 slots_within n columns [] = tt
 slots_within n columns (i ∷ slots) = (slot_within n (slot_symbols n columns i) (slot_symbols_count n columns i), slots_within n columns slots)

@@ -2,7 +2,7 @@
 use Rattle.std.proofs.Common.{◌∙◌, mod-lt, arith, length-take, pow_pos}
 use Rattle.std.specs.Prelude.{ℕ, ◌%◌, ◌^◌, ◌≤◌, Bool, true, false, cond, List, [], ◌∷◌, map, take, Some, None}
 use Rattle.std.proofs.lemmas.List.{length-map}
-use Rattle.std.specs.List.{AllByRecursion as All}
+use Rattle.std.specs.List.{AllByRecursion}
 use Rattle.rows.specs.declared.width.Width.{Width}
 use Rattle.rows.specs.Widths.{places_of}
 use Rattle.device.specs.declared.slot_record.SlotRecord.{SlotRecord}
@@ -26,7 +26,7 @@ slot_within n r = go r.filled
     go true = mod-lt r.care (pow_pos n)
     go false = tt
 
-slots_within : (n : ℕ) (records : List SlotRecord) → All (SlotWithin n) (map (slot_of n) records)
+slots_within : (n : ℕ) (records : List SlotRecord) → AllByRecursion (SlotWithin n) (map (slot_of n) records)
 slots_within n [] = tt
 slots_within n (r ∷ records) = (slot_within n r, slots_within n records)
 

@@ -1,6 +1,6 @@
 -- What a device means, and what it says to a number.
 use Rattle.std.specs.Prelude.{ℕ, ◌^◌, ◌<◌, ◌≤◌, Bool, false, not, ◌&&◌, ◌||◌, List, [], ◌∷◌, length, replicate, Some, None, Option, ◌==◌, bit_and}
-use Rattle.std.specs.List.{AllByRecursion as All}
+use Rattle.std.specs.List.{AllByRecursion}
 use Rattle.rows.specs.declared.row.Row.{Row}
 
 -- a slot holds a row or nothing
@@ -40,7 +40,7 @@ pub record Lawful (s : DeviceState) : Type 0 where
   pub some_place : 1 ≤ s.width
   pub few_places : s.width ≤ 32
   pub few_slots : length s.slots ≤ 120
-  pub rows_within : All (SlotWithin s.width) s.slots
+  pub rows_within : AllByRecursion (SlotWithin s.width) s.slots
 
 -- a device with nothing in its slots, the mute off
 abbrev pub blank_state : ℕ → ℕ → DeviceState

@@ -1,6 +1,6 @@
 // The interface behind which every chip stands.
 ghost use Rattle.std.specs.Prelude.{◌≡◌, List, [], length};
-ghost use Rattle.std.specs.List.{AllByRecursion as All};
+ghost use Rattle.std.specs.List.{AllByRecursion};
 ghost use Rattle.rows.specs.Widths.{places_of};
 ghost use Rattle.device.specs.States.{DeviceState, Lawful};
 ghost use Rattle.device.specs.Answers.{put_answer, after_put, empty_answer, after_empty, read_answer, after_mute, ask_answer};
@@ -23,7 +23,7 @@ pub trait RowDevice {
     // the levels beneath a pile of layers, from the top down
     ghost levels: { Self → List Level } = { λ _. [] };
 
-    ghost beneath: { (d : Self) → All (Beneath (state d)) (levels d) };
+    ghost beneath: { (d : Self) → AllByRecursion (Beneath (state d)) (levels d) };
 
     // Writes a row into a slot.
     fn put(&mut self, slot: usize, row: Row) -> Result<(), Refusal>

@@ -1,6 +1,6 @@
 -- An edit by the table of runs, and by the ledger.
 use Rattle.std.proofs.Common.{◌≡◌, ℕ, ◌<◌, ◌≤◌, Bool, true, false, length, Ok, Err, Result, sym, refl, ap, ◌∙◌, subst, arith}
-use Rattle.std.specs.List.{AllByRecursion as All}
+use Rattle.std.specs.List.{AllByRecursion}
 use Rattle.std.proofs.lemmas.Bool.{le-leb, lt-leb, eq-eqb}
 use Rattle.covers.specs.Rivals.{NumberSet}
 use Rattle.covers.specs.Theorems.{Run}
@@ -77,5 +77,5 @@ pub slots_known : {D : Type 0} (d : Ghosts D) (f : Filter D) (b : Ledger) → St
 slots_known d f b s = ap length s.slots ∙ placed_length b.slots (ledger_rows b) s.fit
 
 -- the runs of a table are proper
-pub table_proper : (n : ℕ) (S : NumberSet) (t : RunTable) → table_runs t ≡ runs n S → All (λ r. Run n r.0 r.1) (table_runs t)
-table_proper n S t e = subst (All (λ r. Run n r.0 r.1)) (sym e) (runs_untouched.proper n S)
+pub table_proper : (n : ℕ) (S : NumberSet) (t : RunTable) → table_runs t ≡ runs n S → AllByRecursion (λ r. Run n r.0 r.1) (table_runs t)
+table_proper n S t e = subst (AllByRecursion (λ r. Run n r.0 r.1)) (sym e) (runs_untouched.proper n S)

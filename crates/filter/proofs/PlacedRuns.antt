@@ -1,6 +1,6 @@
 -- The rows of several runs placed one after the other.
 use Rattle.std.proofs.Common.{◌≡◌, ℕ, zero, suc, ◌+◌, ◌-◌, ◌<◌, ◌≤◌, List, [], ◌∷◌, ◌++◌, map, length, get_or, take, drop, replicate, None, sym, refl, ap, ◌∙◌, ap₂, append-nil, le_of_suc-le-suc, not-suc-le-zero, arith}
-use Rattle.std.specs.List.{AllByRecursion as All}
+use Rattle.std.specs.List.{AllByRecursion}
 use Rattle.std.proofs.lemmas.List.{append_assoc, length-map, length-append, map-append, take-append-drop, take_at, take_more}
 use Rattle.covers.specs.Symbols.{Symbols}
 use Rattle.covers.specs.Rules.{rows_of_run, rows_of_runs, rows_of_range}
@@ -30,7 +30,7 @@ runs_fewer n rs i =
     let k = length-append (rows_of_runs n (take i rs)) (rows_of_runs n (drop i rs)) in
     omega arith
 
-pub run_at_proper : (n : ℕ) (rs : List (ℕ × ℕ)) (i : ℕ) → All (λ r. Run n r.0 r.1) rs → i < length rs → Run n (get_or rs i (0, 0)).0 (get_or rs i (0, 0)).1
+pub run_at_proper : (n : ℕ) (rs : List (ℕ × ℕ)) (i : ℕ) → AllByRecursion (λ r. Run n r.0 r.1) rs → i < length rs → Run n (get_or rs i (0, 0)).0 (get_or rs i (0, 0)).1
 run_at_proper n [] i h k = absurd (not-suc-le-zero k)
 run_at_proper n (r ∷ rs) zero h k = h.0
 run_at_proper n (r ∷ rs) (suc i) h k = run_at_proper n rs i h.1 (le_of_suc-le-suc k)
@@ -58,7 +58,7 @@ slots_rest s rows h =
     (take_at (map slot_with rows) (drop (0 + length (map slot_with rows)) s.slots) (length rows) (length-map rows slot_with)) size)
 
 -- the rows of the run at an index, as those of a range
-pub rows_at_range : (n : ℕ) (rs : List (ℕ × ℕ)) (i f l : ℕ) → All (λ r. Run n r.0 r.1) rs → i < length rs → get_or rs i (0, 0) ≡ (f, l) → rows_of_range n f l ≡ rows_at n rs i
+pub rows_at_range : (n : ℕ) (rs : List (ℕ × ℕ)) (i f l : ℕ) → AllByRecursion (λ r. Run n r.0 r.1) rs → i < length rs → get_or rs i (0, 0) ≡ (f, l) → rows_of_range n f l ≡ rows_at n rs i
 unfolding rows_at
 rows_at_range n rs i f l h k e =
     let R = run_at_proper n rs i h k in

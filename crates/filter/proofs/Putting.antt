@@ -1,6 +1,6 @@
 -- Rows put into slots one after the other.
 use Rattle.std.proofs.Common.{◌≡◌, ℕ, zero, suc, ◌+◌, ◌^◌, ◌<◌, ◌≤◌, List, [], ◌∷◌, map, length, get_or, take, set, Some, sym, refl, ap, ◌∙◌, subst, le_of_suc-le-suc, not-suc-le-zero, arith}
-use Rattle.std.specs.List.{AllByRecursion as All}
+use Rattle.std.specs.List.{AllByRecursion}
 use Rattle.std.proofs.lemmas.List.{length-map, length-take-le, map_more, take_all}
 use Rattle.std.proofs.lemmas.Bool.{lt-ltb}
 use Rattle.covers.specs.Symbols.{Symbols}
@@ -22,13 +22,13 @@ put_none s at = ap (λ l. record { width = s.width; slots = l; muted = s.muted }
 put_slot : (s : DeviceState) (slot : ℕ) (row : Row) → slot < length s.slots → row.care < 2 ^ s.width → after_put s slot row ≡ with_slot s slot (Some row)
 put_slot s slot row h k = rw (lt-ltb slot (length s.slots) h, lt-ltb row.care (2 ^ s.width) k)
 
-pub narrow_at : (n : ℕ) (rows : List RowWords) (i : ℕ) (d : RowWords) → All (λ w. w.care < 2 ^ n) rows → i < length rows → (get_or rows i d).care < 2 ^ n
+pub narrow_at : (n : ℕ) (rows : List RowWords) (i : ℕ) (d : RowWords) → AllByRecursion (λ w. w.care < 2 ^ n) rows → i < length rows → (get_or rows i d).care < 2 ^ n
 narrow_at n [] i d h k = absurd (not-suc-le-zero k)
 narrow_at n (w ∷ rows) zero d h k = h.0
 narrow_at n (w ∷ rows) (suc i) d h k = narrow_at n rows i d h.1 (le_of_suc-le-suc k)
 
 -- one row more
-pub put_more : (s : DeviceState) (at i : ℕ) (rows : List RowWords) (d : RowWords) (row : Row) → All (λ w. w.care < 2 ^ s.width) rows → at + length rows ≤ length s.slots → i < length rows →
+pub put_more : (s : DeviceState) (at i : ℕ) (rows : List RowWords) (d : RowWords) (row : Row) → AllByRecursion (λ w. w.care < 2 ^ s.width) rows → at + length rows ≤ length s.slots → i < length rows →
     row ≡ row_made (get_or rows i d).value (get_or rows i d).care →
     after_put (with_slots s at (map slot_read (take i rows))) (at + i) row ≡ with_slots s at (map slot_read (take (i + 1) rows))
 unfolding row_made
@@ -49,7 +49,7 @@ pub put_all : (rows : List RowWords) (i : ℕ) → length rows ≤ i → map slo
 put_all rows i h = ap (map slot_read) (take_all i rows h)
 
 -- the rows of a list as words
-pub words_narrow : (n : ℕ) (rows : List Symbols) → Long n rows → All (λ w. w.care < 2 ^ n) (map words_of rows)
+pub words_narrow : (n : ℕ) (rows : List Symbols) → Long n rows → AllByRecursion (λ w. w.care < 2 ^ n) (map words_of rows)
 words_narrow n [] h = tt
 words_narrow n (r ∷ rows) h = (let k = care_word_fits r in let e = ap (λ j. 2 ^ j) h.0 in omega arith, words_narrow n rows h.1)
 

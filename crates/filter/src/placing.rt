@@ -1,6 +1,6 @@
 // Placing the rows of runs in the slots of a device.
 ghost use Rattle.std.specs.Prelude.{◌≡◌, ◌+◌, ◌*◌, ◌^◌, ◌<◌, ◌≤◌, map, length};
-ghost use Rattle.std.specs.List.{AllByRecursion as All};
+ghost use Rattle.std.specs.List.{AllByRecursion};
 ghost use Rattle.covers.specs.Rules.{rows_of_range, rows_of_runs};
 ghost use Rattle.covers.specs.Theorems.{Run};
 ghost use Rattle.rows.specs.Widths.{places_of};
@@ -18,7 +18,7 @@ use run_table::table::RunTable;
 // Puts the rows of the runs into the slots from 0 upward, in order, and leaves nothing in the others, where the runs are
 // runs of the device's width and their rows fit the slots.
 pub(super) fn place_runs<D: RowDevice>(device: &mut D, width: Width, runs: &RunTable)
-    ensures after { places_of width ≡ (D.RowDevice.state device.old).width → All (λ r. Run (places_of width) r.0 r.1) (table_runs runs.now) → length (rows_of_runs (places_of width) (table_runs runs.now)) ≤ length (D.RowDevice.state device.old).slots → D.RowDevice.state device.new ≡ with_placed (D.RowDevice.state device.old) (rows_of_runs (places_of width) (table_runs runs.now)) }
+    ensures after { places_of width ≡ (D.RowDevice.state device.old).width → AllByRecursion (λ r. Run (places_of width) r.0 r.1) (table_runs runs.now) → length (rows_of_runs (places_of width) (table_runs runs.now)) ≤ length (D.RowDevice.state device.old).slots → D.RowDevice.state device.new ≡ with_placed (D.RowDevice.state device.old) (rows_of_runs (places_of width) (table_runs runs.now)) }
 {
     let mut next = 0;
     for i in 0..runs.len() {
@@ -37,8 +37,8 @@ fn put_run_at<D: RowDevice>(
 ) -> usize
     requires small { at ≤ 62 * 16 }
     ensures bound { result ≤ at + 62 }
-    ensures after { places_of width ≡ (D.RowDevice.state device.old).width → i < length (table_runs runs.now) → All (λ r. Run (places_of width) r.0 r.1) (table_runs runs.now) → at + length (rows_at (places_of width) (table_runs runs.now) i) ≤ length (D.RowDevice.state device.old).slots → D.RowDevice.state device.new ≡ with_slots (D.RowDevice.state device.old) at (map slot_with (rows_at (places_of width) (table_runs runs.now) i)) }
-    ensures next { i < length (table_runs runs.now) → All (λ q. Run (places_of width) q.0 q.1) (table_runs runs.now) → result ≡ at + length (rows_at (places_of width) (table_runs runs.now) i) }
+    ensures after { places_of width ≡ (D.RowDevice.state device.old).width → i < length (table_runs runs.now) → AllByRecursion (λ r. Run (places_of width) r.0 r.1) (table_runs runs.now) → at + length (rows_at (places_of width) (table_runs runs.now) i) ≤ length (D.RowDevice.state device.old).slots → D.RowDevice.state device.new ≡ with_slots (D.RowDevice.state device.old) at (map slot_with (rows_at (places_of width) (table_runs runs.now) i)) }
+    ensures next { i < length (table_runs runs.now) → AllByRecursion (λ q. Run (places_of width) q.0 q.1) (table_runs runs.now) → result ≡ at + length (rows_at (places_of width) (table_runs runs.now) i) }
 {
     match runs.get(i) {
         Some((first, last)) => put_run(device, width, first, last, at),
@@ -68,7 +68,7 @@ fn put_run<D: RowDevice>(device: &mut D, width: Width, first: u64, last: u64, at
 fn put_rows<D: RowDevice>(device: &mut D, rows: &[RowWords], at: usize)
     requires small { at ≤ 62 * 16 }
     requires few { length rows.now ≤ 62 }
-    ensures after { All (λ w. w.care < 2 ^ (D.RowDevice.state device.old).width) rows.now → at + length rows.now ≤ length (D.RowDevice.state device.old).slots → D.RowDevice.state device.new ≡ with_slots (D.RowDevice.state device.old) at (map slot_read rows.now) }
+    ensures after { AllByRecursion (λ w. w.care < 2 ^ (D.RowDevice.state device.old).width) rows.now → at + length rows.now ≤ length (D.RowDevice.state device.old).slots → D.RowDevice.state device.new ≡ with_slots (D.RowDevice.state device.old) at (map slot_read rows.now) }
 {
     for (i, words) in rows.iter().enumerate() {
         let _ = device.put(at + i, Row::read(*words));

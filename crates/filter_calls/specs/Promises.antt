@@ -1,6 +1,6 @@
 -- What a filter promises over every device and every list of calls.
 use Rattle.std.specs.Prelude.{◌≡◌, ℕ, ◌^◌, ◌<◌, List, length}
-use Rattle.std.specs.List.{AllByRecursion as All}
+use Rattle.std.specs.List.{AllByRecursion}
 use Rattle.covers.specs.Rivals.{Shortest, Within}
 use Rattle.device.specs.Levels.{Level}
 use Rattle.device.specs.States.{DeviceState, some_slot_takes}
@@ -36,7 +36,7 @@ pub record PromiseKept (t : DeviceState) (levels : List Level) (b : Ledger) : Ty
   -- k runs: at most 2 · k times any rival
   pub bounded : Within (length (ledger_runs b)) b.width (rows_in b.width t.slots)
   -- the same beneath layers
-  pub beneath : All (PromiseBeneath b) levels
+  pub beneath : AllByRecursion (PromiseBeneath b) levels
 
 -- The whole promise. A filter was opened with a tag over a device in the state s, and calls were made; the exchanges are
 -- those before and those after, with the answers, and the device is in the state t now. Each call is answered as the

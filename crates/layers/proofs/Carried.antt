@@ -2,7 +2,7 @@
 use Rattle.std.proofs.Common.{◌≡◌, ℕ, ◌^◌, ◌<◌, Bool, true, false, cond, not, ◌&&◌, ◌||◌, ltb, List, [], ◌∷◌, length, get_or, set, Some, None, Ok, Err, Result, sym, refl, ap, ◌∙◌, ap₂}
 use lib.ListN.{length-map}
 use lib.Seq.{map-set}
-use Rattle.std.specs.List.{AllByRecursion as All}
+use Rattle.std.specs.List.{AllByRecursion}
 use Rattle.std.proofs.lemmas.List.{get_or-map}
 use Rattle.std.proofs.lemmas.Bool.{lt-ltb, ltb-true}
 use Rattle.rows.specs.declared.row.Row.{Row}
@@ -35,7 +35,7 @@ abbrev holding : DeviceState → List Slot → DeviceState
 holding s slots = record { width = s.width; slots = slots; muted = s.muted }
 
 -- the slots take a carried number as the slots carried back take the number
-carried_takes : (n : ℕ) (c : Carrying) → Carries n c → (x : ℕ) → x < 2 ^ n → (slots : List Slot) → All (SlotWithin n) slots → some_slot_takes slots (c.number_there x) ≡ some_slot_takes (carried_slots c.row_back slots) x
+carried_takes : (n : ℕ) (c : Carrying) → Carries n c → (x : ℕ) → x < 2 ^ n → (slots : List Slot) → AllByRecursion (SlotWithin n) slots → some_slot_takes slots (c.number_there x) ≡ some_slot_takes (carried_slots c.row_back slots) x
 carried_takes n c k x h [] w = refl
 carried_takes n c k x h (Some r ∷ slots) w =
     ap₂ ◌||◌
@@ -97,7 +97,7 @@ module _ (carrying : ℕ → Carrying) (s : DeviceState) where
           ap {B = Result Slot Refusal} Ok (sym (get_or-map (carried_slot (carrying s.width).row_back) s.slots i None None (ltb-true i (length s.slots) e)))
       go false e = refl
 
-  pub ask_carried : Carries s.width (carrying s.width) → All (SlotWithin s.width) s.slots → (x : ℕ) → ask_answer s (number_below carrying s x) ≡ ask_answer (layer_state carrying s) x
+  pub ask_carried : Carries s.width (carrying s.width) → AllByRecursion (SlotWithin s.width) s.slots → (x : ℕ) → ask_answer s (number_below carrying s x) ≡ ask_answer (layer_state carrying s) x
   ask_carried k w x = go (ltb x (2 ^ s.width)) refl
     where
       go : (t : Bool) → ltb x (2 ^ s.width) ≡ t →

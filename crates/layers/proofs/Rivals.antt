@@ -1,7 +1,7 @@
 -- The rows at a level beneath a pile, and their rivals.
 use Rattle.std.proofs.Common.{◌≡◌, ℕ, zero, suc, ◌^◌, ◌<◌, ◌||◌, List, [], ◌∷◌, length, Some, None, sym, refl, ap, ◌∙◌, subst, ap₂, arith}
 use lib.ListN.{length-map}
-use Rattle.std.specs.List.{AllByRecursion as All}
+use Rattle.std.specs.List.{AllByRecursion}
 use Rattle.covers.specs.Digits.{digits}
 use Rattle.covers.specs.Symbols.{Symbols, takes, list_takes}
 use Rattle.covers.specs.Words.{value_word, care_word, symbols}
@@ -30,15 +30,15 @@ unfolding row_made
 made_symbols n q e = ap₂ (λ (j v : ℕ). symbols j v (care_word q)) (sym e) (clean_word q) ∙ symbols_back q
 
 module _ (s : DeviceState) (l : Level) (w : Lawful s) (b : Beneath s l) where
-  level_within : All (SlotWithin s.width) l.slots
+  level_within : AllByRecursion (SlotWithin s.width) l.slots
   level_within =
-      subst (λ (slots : List Slot). All (SlotWithin s.width) slots) (sym b.slots_carried)
+      subst (λ (slots : List Slot). AllByRecursion (SlotWithin s.width) slots) (sym b.slots_carried)
       (carried_within s.width l.carrying.row_there b.carries.row_stays s.slots w.rows_within)
 
   pub taken_beneath : (x : ℕ) → x < 2 ^ s.width → some_slot_takes l.slots (l.carrying.number_there x) ≡ some_slot_takes s.slots x
   taken_beneath x h = ap (λ (slots : List Slot). some_slot_takes slots (l.carrying.number_there x)) b.slots_carried ∙ go s.slots w.rows_within
     where
-      go : (slots : List Slot) → All (SlotWithin s.width) slots → some_slot_takes (carried_slots l.carrying.row_there slots) (l.carrying.number_there x) ≡ some_slot_takes slots x
+      go : (slots : List Slot) → AllByRecursion (SlotWithin s.width) slots → some_slot_takes (carried_slots l.carrying.row_there slots) (l.carrying.number_there x) ≡ some_slot_takes slots x
       go [] k = refl
       go (Some r ∷ slots) k = ap₂ ◌||◌ (b.carries.taken r x k.0 h) (go slots k.1)
       go (None ∷ slots) k = go slots k.1
@@ -63,12 +63,12 @@ module _ (s : DeviceState) (l : Level) (w : Lawful s) (b : Beneath s l) where
       row_by_symbols s.width r (l.carrying.number_there x) fits ∙
       ap (λ (t : Symbols). takes t (digits s.width (l.carrying.number_there x))) (made_symbols s.width q e)
 
-  rows_back_take : (other : List Symbols) → All (λ q. length q ≡ s.width) other → (x : ℕ) → x < 2 ^ s.width →
+  rows_back_take : (other : List Symbols) → AllByRecursion (λ q. length q ≡ s.width) other → (x : ℕ) → x < 2 ^ s.width →
       list_takes (carried_rows s.width l.carrying.row_back other) (digits s.width x) ≡ list_takes other (digits s.width (l.carrying.number_there x))
   rows_back_take [] a x h = refl
   rows_back_take (q ∷ other) a x h = ap₂ ◌||◌ (row_back_takes q a.0 x h) (rows_back_take other a.1 x h)
 
-  rows_back_wide : (other : List Symbols) → All (λ q. length q ≡ s.width) (carried_rows s.width l.carrying.row_back other)
+  rows_back_wide : (other : List Symbols) → AllByRecursion (λ q. length q ≡ s.width) (carried_rows s.width l.carrying.row_back other)
   rows_back_wide [] = tt
   rows_back_wide (q ∷ other) =
       let r = l.carrying.row_back (row_made (value_word q) (care_word q)) in

@@ -2,14 +2,14 @@
 use Rattle.std.specs.Prelude.{◌≡◌, ℕ, ◌^◌, ◌<◌, List, [], ◌∷◌, map, Some, None, refl}
 use Rattle.std.proofs.Common.{sym, ap, ap₂, ◌∙◌, arith}
 use Rattle.std.proofs.lemmas.List.{length-map}
-use Rattle.std.specs.List.{AllByRecursion as All}
+use Rattle.std.specs.List.{AllByRecursion}
 use Rattle.rows.specs.declared.row.Row.{Row}
 use Rattle.device.specs.States.{Slot, DeviceState, SlotWithin, Lawful}
 use Rattle.device.specs.Levels.{Carrying, Carries, Level, Beneath, carried_slot, carried_slots}
 use Rattle.layers.specs.Maps.{LawfulMap}
 use Rattle.layers.specs.Layers.{layer_state, layer_levels, composed, level_under}
 
-pub carried_within : (n : ℕ) (carry : Row → Row) → ((r : Row) → r.care < 2 ^ n → (carry r).care < 2 ^ n) → (slots : List Slot) → All (SlotWithin n) slots → All (SlotWithin n) (carried_slots carry slots)
+pub carried_within : (n : ℕ) (carry : Row → Row) → ((r : Row) → r.care < 2 ^ n → (carry r).care < 2 ^ n) → (slots : List Slot) → AllByRecursion (SlotWithin n) slots → AllByRecursion (SlotWithin n) (carried_slots carry slots)
 carried_within n carry stays [] h = tt
 carried_within n carry stays (Some r ∷ slots) h = (stays r h.0, carried_within n carry stays slots h.1)
 carried_within n carry stays (None ∷ slots) h = (tt, carried_within n carry stays slots h.1)
@@ -19,7 +19,7 @@ carried_twice f g [] = refl
 carried_twice f g (Some r ∷ slots) = ap (λ (l : List Slot). Some (f (g r)) ∷ l) (carried_twice f g slots)
 carried_twice f g (None ∷ slots) = ap (λ (l : List Slot). None ∷ l) (carried_twice f g slots)
 
-pub carried_same : (n : ℕ) (carry : Row → Row) → ((r : Row) → r.care < 2 ^ n → carry r ≡ r) → (slots : List Slot) → All (SlotWithin n) slots → carried_slots carry slots ≡ slots
+pub carried_same : (n : ℕ) (carry : Row → Row) → ((r : Row) → r.care < 2 ^ n → carry r ≡ r) → (slots : List Slot) → AllByRecursion (SlotWithin n) slots → carried_slots carry slots ≡ slots
 carried_same n carry same [] h = refl
 carried_same n carry same (Some r ∷ slots) h = ap₂ (λ (t : Row) (l : List Slot). Some t ∷ l) (same r h.0) (carried_same n carry same slots h.1)
 carried_same n carry same (None ∷ slots) h = ap (λ (l : List Slot). None ∷ l) (carried_same n carry same slots h.1)
@@ -48,7 +48,7 @@ module _ (carrying : ℕ → Carrying) (s : DeviceState) where
         rows_within = carried_within s.width (carrying s.width).row_back (m s.width w.some_place w.few_places).row_back_stays s.slots w.rows_within;
       }
 
-  pub layer_beneath : (levels : List Level) → LawfulMap carrying → Lawful s → All (Beneath s) levels → All (Beneath (layer_state carrying s)) (layer_levels carrying s levels)
+  pub layer_beneath : (levels : List Level) → LawfulMap carrying → Lawful s → AllByRecursion (Beneath s) levels → AllByRecursion (Beneath (layer_state carrying s)) (layer_levels carrying s levels)
   layer_beneath levels m w h = (record { carries = k; slots_carried = again }, under levels h)
     where
       k : Carries s.width (carrying s.width)
@@ -59,7 +59,7 @@ module _ (carrying : ℕ → Carrying) (s : DeviceState) where
           sym (carried_same s.width (λ r. (carrying s.width).row_there ((carrying s.width).row_back r)) k.row_back_there s.slots w.rows_within) ∙
           carried_twice (carrying s.width).row_there (carrying s.width).row_back s.slots
 
-      under : (levels : List Level) → All (Beneath s) levels → All (Beneath (layer_state carrying s)) (map (level_under (carrying s.width)) levels)
+      under : (levels : List Level) → AllByRecursion (Beneath s) levels → AllByRecursion (Beneath (layer_state carrying s)) (map (level_under (carrying s.width)) levels)
       under [] h = tt
       under (l ∷ levels) h = (
         record {

@@ -1,6 +1,6 @@
 // What holds at every level beneath a pile of layers.
 ghost use Rattle.std.specs.Prelude.{◌≡◌};
-ghost use Rattle.std.specs.List.{AllByRecursion as All};
+ghost use Rattle.std.specs.List.{AllByRecursion};
 ghost use Rattle.device.specs.Answers.{ask_answer};
 ghost use Rattle.layers.specs.Piles.{Alike};
 
@@ -11,7 +11,7 @@ use rows::refusal::Refusal;
 // on top take the number, and a rival of those rows, carried back, is a rival on top with as many rows.
 pub fn ask_pile<D: RowDevice>(pile: &D, number: u64) -> Result<bool, Refusal>
     ensures answer { result ≡ ask_answer (D.RowDevice.state pile.now) number }
-    ensures levels { All (Alike (D.RowDevice.state pile.now)) (D.RowDevice.levels pile.now) }
+    ensures levels { AllByRecursion (Alike (D.RowDevice.state pile.now)) (D.RowDevice.levels pile.now) }
 {
     pile.ask(number)
 }

@@ -1,6 +1,6 @@
 // The witness of a range.
 ghost use Rattle.std.specs.Prelude.{◌≡◌, ℕ, ◌^◌, ◌<◌, ◌≤◌, true, List, ◌++◌, length, take, drop, is_err, IfOk};
-ghost use Rattle.std.specs.List.{AllByRecursion as All};
+ghost use Rattle.std.specs.List.{AllByRecursion};
 ghost use Rattle.covers.specs.Rivals.{in_range, Pairs, Parted, Witness};
 ghost use Rattle.covers.specs.Rules.{rows_of_range};
 ghost use Rattle.covers.specs.WitnessNumbers.{numbers_of_range};
@@ -29,7 +29,7 @@ pub fn witness_of_range(
     ensures numbers_left_free { IfOk result (λ k. (numbers : List ℕ) × (length numbers ≡ k) × (memory.new ≡ numbers ++ drop k memory.old)) }
     ensures untouched_when_refused { is_err result ≡ true → memory.new ≡ memory.old }
     ensures as_many { IfOk result (λ k. k ≡ length (rows_of_range (places_of width) first last)) }
-    ensures members { IfOk result (λ k. All (λ x. (x < 2 ^ places_of width) × (in_range first last x ≡ true)) (take k memory.new)) }
+    ensures members { IfOk result (λ k. AllByRecursion (λ x. (x < 2 ^ places_of width) × (in_range first last x ≡ true)) (take k memory.new)) }
     ensures parted { IfOk result (λ k. Pairs (Parted (places_of width) (in_range first last)) (take k memory.new)) }
     ensures witness { IfOk result (λ k. Witness (places_of width) (in_range first last) (take k memory.new)) }
 {

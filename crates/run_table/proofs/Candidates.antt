@@ -1,6 +1,6 @@
 -- The candidates for the first numbers of runs: the old firsts and one number more.
 use Rattle.std.proofs.Common.{◌≡◌, ℕ, suc, ◌+◌, ◌<◌, ◌≤◌, Bool, true, false, cond, ltb, List, [], ◌∷◌, length, filter, sym, refl, inl, inr, arith}
-use Rattle.std.specs.List.{ContainsAt as Has, AllByRecursion as All}
+use Rattle.std.specs.List.{ContainsAt as Has, AllByRecursion}
 use Rattle.std.proofs.ByRecursion.{all_kept_by, kept_by_passes}
 use Rattle.std.proofs.lemmas.Bool.{ltb-true, lt-ltb, cases_order}
 use Rattle.covers.proofs.Lists.{all_mono, all_join, pairs_join}
@@ -13,19 +13,19 @@ has_from_in (y ∷ l) x (inl e) = (0, omega arith, λ d. sym e)
 has_from_in (y ∷ l) x (inr i) = let h = has_from_in l x i in (suc h.0, (let k = h.1 in omega arith), h.2)
 
 module _ (x : ℕ) (l : List ℕ) where
-  lower : All (λ f. f < x) (filter (λ f. ltb f x) l)
+  lower : AllByRecursion (λ f. f < x) (filter (λ f. ltb f x) l)
   lower = all_mono {P = λ f. ltb f x ≡ true} {Q = λ f. f < x} (λ f e. ltb-true f x e) (filter (λ f. ltb f x) l) (kept_by_passes (λ f. ltb f x) l)
 
-  higher : All (λ f. x < f) (filter (λ f. ltb x f) l)
+  higher : AllByRecursion (λ f. x < f) (filter (λ f. ltb x f) l)
   higher = all_mono {P = λ f. ltb x f ≡ true} {Q = λ f. x < f} (λ f e. ltb-true x f e) (filter (λ f. ltb x f) l) (kept_by_passes (λ f. ltb x f) l)
 
   pub candidates_ascend : Ascending l → Ascending (below_and_above x l)
   candidates_ascend a =
       pairs_join (λ y z. y < z) (filter (λ f. ltb f x) l) (x ∷ filter (λ f. ltb x f) l) (kept_ascends (λ f. ltb f x) l a) (higher, kept_ascends (λ f. ltb x f) l a)
-      (all_mono {P = λ f. f < x} {Q = λ f. All (λ z. f < z) (x ∷ filter (λ f. ltb x f) l)}
+      (all_mono {P = λ f. f < x} {Q = λ f. AllByRecursion (λ z. f < z) (x ∷ filter (λ f. ltb x f) l)}
       (λ f h. (h, all_mono {P = λ z. x < z} {Q = λ z. f < z} (λ z k. omega arith) (filter (λ f. ltb x f) l) higher)) (filter (λ f. ltb f x) l) lower)
 
-  pub candidates_below : (k : ℕ) → x < k → All (λ y. y < k) l → All (λ y. y < k) (below_and_above x l)
+  pub candidates_below : (k : ℕ) → x < k → AllByRecursion (λ y. y < k) l → AllByRecursion (λ y. y < k) (below_and_above x l)
   candidates_below k h low = all_join (λ y. y < k) (filter (λ f. ltb f x) l) (x ∷ filter (λ f. ltb x f) l) (all_kept_by (λ f. ltb f x) (λ y. y < k) l low) (h, all_kept_by (λ f. ltb x f) (λ y. y < k) l low)
 
   pub new_in : In x (below_and_above x l)

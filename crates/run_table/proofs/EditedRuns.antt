@@ -1,6 +1,6 @@
 -- The runs that are computed for an edit are the runs of the set after it.
 use Rattle.std.proofs.Common.{◌≡◌, ℕ, ◌+◌, ◌-◌, ◌%◌, ◌^◌, ◌<◌, ◌≤◌, true, false, not, List, [], ◌∷◌, map, filter, sym, refl, ap, ◌∙◌, subst, ap₂, inl, inr, arith}
-use Rattle.std.specs.List.{AllByRecursion as All}
+use Rattle.std.specs.List.{AllByRecursion}
 use Rattle.std.proofs.ByRecursion.{all_kept_by, kept_by_passes}
 use Rattle.std.proofs.lemmas.Bool.{true≢false, cases_Bool, and_right, or_right, not_from_true}
 use Rattle.covers.specs.Rivals.{NumberSet, in_range, in_ranges}
@@ -30,7 +30,7 @@ lasts_same [] = refl
 lasts_same (r ∷ R) = ap (λ l. r.last ∷ l) (lasts_same R)
 
 -- runs given by their first numbers
-ranges_from : (n : ℕ) (T : NumberSet) (lasts : List ℕ) (l : List ℕ) → All (λ g. (g + steps_to_end n T lasts g) % 2 ^ n ≡ last_from n T g) l →
+ranges_from : (n : ℕ) (T : NumberSet) (lasts : List ℕ) (l : List ℕ) → AllByRecursion (λ g. (g + steps_to_end n T lasts g) % 2 ^ n ≡ last_from n T g) l →
     ranges_of (map (run_from n T lasts) l) ≡ map (λ f. (f, last_from n T f)) l
 ranges_from n T lasts [] h = refl
 ranges_from n T lasts (g ∷ l) h = ap₂ (λ (x : ℕ) (k : List (ℕ × ℕ)). (g, x) ∷ k) h.0 (ranges_from n T lasts l h.1)
@@ -55,22 +55,22 @@ module _ (n : ℕ) (R : List Run) (e : Edit) (few : n ≤ 64) (w : edit_in_width
   lasts_are : map (λ r. r.1) (runs n old_set) ≡ lasts_of R
   lasts_are = ap (map (λ r. r.1)) (sym own) ∙ lasts_same R
 
-  proper : All (λ r. ProperRun n r.0 r.1) (runs n old_set)
+  proper : AllByRecursion (λ r. ProperRun n r.0 r.1) (runs n old_set)
   proper = (are_runs n old_set).proper
 
   firsts_ascend : Ascending (firsts_of R)
   firsts_ascend = rw firsts_are at (pairs_map (λ r. r.0) (λ x y. x < y) {P = λ r. ProperRun n r.0 r.1} {R = λ r q. r.0 < q.0} (λ r q g h o. o) (runs n old_set) proper (are_runs n old_set).ascending)
 
-  firsts_low : All (λ x. x < 2 ^ n) (firsts_of R)
+  firsts_low : AllByRecursion (λ x. x < 2 ^ n) (firsts_of R)
   firsts_low = rw firsts_are at (all_map (λ r. r.0) (λ x. x < 2 ^ n) {P = λ r. ProperRun n r.0 r.1} (λ r p. p.first_fits) (runs n old_set) proper)
 
-  lasts_low : All (λ x. x < 2 ^ n) (lasts_of R)
+  lasts_low : AllByRecursion (λ x. x < 2 ^ n) (lasts_of R)
   lasts_low = rw lasts_are at (all_map (λ r. r.1) (λ x. x < 2 ^ n) {P = λ r. ProperRun n r.0 r.1} (λ r p. p.last_fits) (runs n old_set) proper)
 
   ascend : Ascending candidates
   ascend = candidates_ascend (first_candidate n e) (firsts_of R) firsts_ascend
 
-  low : All (λ x. x < 2 ^ n) candidates
+  low : AllByRecursion (λ x. x < 2 ^ n) candidates
   low = candidates_below (first_candidate n e) (firsts_of R) (2 ^ n) (first_candidate_fits n e w) firsts_low
 
   -- every begin is a candidate
@@ -104,7 +104,7 @@ module _ (n : ℕ) (R : List Run) (e : Edit) (few : n ≤ 64) (w : edit_in_width
   ]
 
   first_kept : (g : ℕ) (l : List ℕ) → kept ≡ g ∷ l → begins n new_set g ≡ true
-  first_kept g l q = (subst (All (λ x. begins n new_set x ≡ true)) q (kept_by_passes (begins n new_set) candidates)).0
+  first_kept g l q = (subst (AllByRecursion (λ x. begins n new_set x ≡ true)) q (kept_by_passes (begins n new_set) candidates)).0
 
   none_run : kept ≡ [] → new_runs n e R ≡ []
   unfolding new_runs

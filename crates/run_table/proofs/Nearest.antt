@@ -1,6 +1,6 @@
 -- The least of some numbers, and the nearest end of a run.
 use Rattle.std.proofs.Common.{◌≡◌, ℕ, ◌+◌, ◌%◌, ◌^◌, ◌<◌, ◌≤◌, min, Bool, true, false, cond, ◌⊎◌, List, [], ◌∷◌, sym, refl, ap, ◌∙◌, inl, inr, arith}
-use Rattle.std.specs.List.{AllByRecursion as All}
+use Rattle.std.specs.List.{AllByRecursion}
 use Rattle.std.proofs.lemmas.Bool.{both_ways, cases_lt}
 use Rattle.covers.specs.Rivals.{NumberSet}
 use Rattle.circle.specs.Runs.{begins, ends, last_from}
@@ -61,7 +61,7 @@ module _ (p : ℕ → Bool) (d : ℕ → ℕ) where
   ]
 
 -- where a run begins, the fewest steps to an end lead to its last number
-pub nearest_end : (n : ℕ) (T : NumberSet) (lasts : List ℕ) → n ≤ 64 → All (λ x. x < 2 ^ n) lasts →
+pub nearest_end : (n : ℕ) (T : NumberSet) (lasts : List ℕ) → n ≤ 64 → AllByRecursion (λ x. x < 2 ^ n) lasts →
     ((x : ℕ) → x < 2 ^ n → ends n T x ≡ true → In x lasts) →
     (g : ℕ) → g < 2 ^ n → begins n T g ≡ true → (g + steps_to_end n T lasts g) % 2 ^ n ≡ last_from n T g
 unfolding steps_to_end

@@ -1,7 +1,7 @@
 -- The rows of a table's runs.
 use Rattle.std.proofs.Common.{◌≡◌, ℕ, zero, suc, ◌+◌, ◌-◌, ◌^◌, ◌<◌, ◌≤◌, Bool, true, false, cond, ◌&&◌, leb, List, [], ◌∷◌, ◌++◌, length, get_or, take, drop, Ok, Err, Result, sym, refl, ap, ◌∙◌, ap₂, arith}
 use borrow.Rule.Slice.PartMut.{put_mid}
-use Rattle.std.specs.List.{AllByRecursion as All}
+use Rattle.std.specs.List.{AllByRecursion}
 use Rattle.std.proofs.lemmas.List.{length-append, take_more, map_push, flat_map_more, append-nil, drop_all, drop-drop, length-drop, take_all, take_rest}
 use Rattle.std.proofs.lemmas.Slice.{put_mid-paste}
 use Rattle.std.proofs.lemmas.Bool.{lt-ltb, le-leb, both_ways}
@@ -32,7 +32,7 @@ rows_of_proper n r p =
     ap₂ (λ (s t : Bool). cond (s && t) (rows_of_range n r.0 r.1) []) (lt-ltb r.0 (2 ^ n) p.first_fits) (lt-ltb r.1 (2 ^ n) p.last_fits) ∙
     range_proper n r.0 r.1 p.proper
 
-rows_of_propers : (n : ℕ) (ranges : List (ℕ × ℕ)) → All (λ r. ProperRun n r.0 r.1) ranges → rows_of_ranges n ranges ≡ rows_of_runs n ranges
+rows_of_propers : (n : ℕ) (ranges : List (ℕ × ℕ)) → AllByRecursion (λ r. ProperRun n r.0 r.1) ranges → rows_of_ranges n ranges ≡ rows_of_runs n ranges
 rows_of_propers n [] h = refl
 rows_of_propers n (r ∷ ranges) h = ap₂ (λ (x y : List Symbols). x ++ y) (rows_of_proper n r h.0) (rows_of_propers n ranges h.1)
 

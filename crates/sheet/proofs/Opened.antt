@@ -1,6 +1,6 @@
 -- A sheet that was opened: two bytes of header, and the body.
 use Rattle.std.proofs.Common.{◌≡◌, ℕ, suc, ◌+◌, ◌-◌, ◌*◌, ◌/◌, ◌%◌, ◌<◌, ◌≤◌, min, List, [], ◌∷◌, ◌++◌, map, length, get_or, take, drop, sym, ap, ◌∙◌, ap₂, suc-mul, arith}
-use Rattle.std.specs.List.{AllByRecursion as All}
+use Rattle.std.specs.List.{AllByRecursion}
 use Rattle.std.proofs.lemmas.Nat.{mul-le}
 use Rattle.std.proofs.lemmas.List.{take_all, take-take, drop-take, get_or-map, length-map}
 use Rattle.covers.specs.Digits.{Digits, digits}
@@ -14,7 +14,7 @@ use Rattle.sheets.proofs.Readings.{rows_in}
 use Rattle.rows.specs.Memory.{words_of}
 use Rattle.sheet.proofs.Rows.{no_words}
 
-pub all_bytes : (sheet : List ℕ) → ((i : ℕ) → get_or sheet i 0 < 256) → All (λ b. b < 256) sheet
+pub all_bytes : (sheet : List ℕ) → ((i : ℕ) → get_or sheet i 0 < 256) → AllByRecursion (λ b. b < 256) sheet
 all_bytes [] fits = tt
 all_bytes (b ∷ sheet) fits = (fits 0, all_bytes sheet (λ i. fits (suc i)))
 

@@ -1,7 +1,7 @@
 -- There and back, in lists.
 use Rattle.std.proofs.Common.{◌≡◌, ℕ, zero, suc, ◌^◌, ◌<◌, ◌≤◌, Bool, true, false, cond, ◌&&◌, ◌||◌, leb, List, [], ◌∷◌, ◌++◌, map, length, take, drop, Some, None, Ok, Err, Option, Result, sym, refl, ap, ◌∙◌, subst, ap₂, ⊎_elim, arith}
 use lib.Bits.{bit_and, and_le_r}
-use Rattle.std.specs.List.{AllByRecursion as All}
+use Rattle.std.specs.List.{AllByRecursion}
 use Rattle.std.proofs.lemmas.List.{length-map, take_at}
 use Rattle.std.proofs.lemmas.Bool.{cases_Bool, cases_lt, lt-ltb, le-ltb, leb-false, lt-leb, or_parts}
 use Rattle.covers.specs.declared.symbol.Symbol.{Symbol}
@@ -61,11 +61,11 @@ made_symbols (suc n) v c = ap₂ (λ (s : Symbol) (r : Symbols). s ∷ r) (made_
 pub row_again : (n : ℕ) (r : Symbols) → length r ≡ n → row_of n (words_of r) ≡ r
 row_again n r l = made_symbols n (value_word r) (care_word r) ∙ ap (λ k. symbols k (value_word r) (care_word r)) (sym l) ∙ symbols_back r
 
-pub rows_again : (n : ℕ) (rows : List Symbols) → All (λ r. length r ≡ n) rows → rows_of n (map words_of rows) ≡ rows
+pub rows_again : (n : ℕ) (rows : List Symbols) → AllByRecursion (λ r. length r ≡ n) rows → rows_of n (map words_of rows) ≡ rows
 rows_again n [] even = refl
 rows_again n (r ∷ rows) even = ap₂ (λ (a : Symbols) (b : List Symbols). a ∷ b) (row_again n r even.0) (rows_again n rows even.1)
 
-pub words_inside : (n : ℕ) (rows : List Symbols) → All (λ r. length r ≡ n) rows → cares_outside n (map words_of rows) ≡ false
+pub words_inside : (n : ℕ) (rows : List Symbols) → AllByRecursion (λ r. length r ≡ n) rows → cares_outside n (map words_of rows) ≡ false
 words_inside n [] even = refl
 words_inside n (r ∷ rows) even =
     let f = care_word_fits r in

@@ -1,7 +1,7 @@
 -- The symbols and the bytes of rows that lie in memory.
 use Rattle.std.proofs.Common.{◌≡◌, ℕ, ◌+◌, ◌-◌, ◌*◌, ◌/◌, ◌%◌, ◌<◌, ◌≤◌, List, length, get_or, sym, ap, ◌∙◌, mod-lt, div-add-mod', arith}
 use lib.Bits.{bit_and}
-use Rattle.std.specs.List.{AllByRecursion as All}
+use Rattle.std.specs.List.{AllByRecursion}
 use Rattle.std.proofs.lemmas.Nat.{mul-le}
 use Rattle.std.proofs.lemmas.List.{length-map}
 use Rattle.covers.specs.declared.symbol.Symbol.TheVariants.{Zero}
@@ -19,7 +19,7 @@ no_words = record { value = 0; care = 0 }
 wide : (n : ℕ) (x : RowWords) → length (row_of n x) ≡ n
 wide n x = length_symbols n (bit_and x.value x.care) x.care
 
-pub even_rows : (n : ℕ) (rows : List RowWords) → All (λ r. length r ≡ n) (rows_of n rows)
+pub even_rows : (n : ℕ) (rows : List RowWords) → AllByRecursion (λ r. length r ≡ n) (rows_of n rows)
 even_rows n rows = rows_even (row_of n) n (wide n) rows
 
 -- the symbol at an index, by row and place

@@ -1,6 +1,6 @@
 -- Bits as bytes, there and back.
 use Rattle.std.proofs.Common.{◌≡◌, ℕ, zero, suc, ◌+◌, ◌*◌, ◌<◌, Bool, true, false, List, [], ◌∷◌, ◌++◌, length, get_or, take, drop, sym, refl, ap, ◌∙◌, ap₂, suc-add, zero-add, arith}
-use Rattle.std.specs.List.{AllByRecursion as All}
+use Rattle.std.specs.List.{AllByRecursion}
 use Rattle.std.proofs.lemmas.List.{length-append, take_at, drop_at, drop-drop}
 use Rattle.std.proofs.lemmas.Bool.{false≢true}
 use Rattle.covers.specs.Digits.{Digits, digits, value, all_zeros}
@@ -58,7 +58,7 @@ length_bits (b ∷ sheet) =
     omega arith
 
 -- bytes are those of the bits that they have
-pub bytes_of_bits : (sheet : List ℕ) (u : Digits) → All (λ b. b < 256) sheet → bits_of sheet ≡ filled (8 * length sheet) u → bytes (length sheet) u ≡ sheet
+pub bytes_of_bits : (sheet : List ℕ) (u : Digits) → AllByRecursion (λ b. b < 256) sheet → bits_of sheet ≡ filled (8 * length sheet) u → bytes (length sheet) u ≡ sheet
 unfolding bytes bits_of
 bytes_of_bits [] u fit e = refl
 bytes_of_bits (b ∷ sheet) u fit e =

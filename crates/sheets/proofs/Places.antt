@@ -1,6 +1,6 @@
 -- Where a symbol of a row lies on the sheet, and in which byte.
 use Rattle.std.proofs.Common.{◌≡◌, ℕ, zero, suc, ◌+◌, ◌-◌, ◌*◌, ◌/◌, ◌%◌, ◌<◌, ◌≤◌, List, [], ◌∷◌, ◌++◌, map, length, get_or, drop, sym, refl, ap, ◌∙◌, ap₂, add-zero, suc-mul, zero-mul, arith}
-use Rattle.std.specs.List.{AllByRecursion as All}
+use Rattle.std.specs.List.{AllByRecursion}
 use Rattle.std.proofs.lemmas.List.{length-map, get_or_append_left, get_or-append-add, get_or_past, get_or-drop, drop-drop}
 use Rattle.covers.specs.declared.symbol.Symbol.{Symbol}
 use Rattle.covers.specs.declared.symbol.Symbol.TheVariants.{Zero, One, Dash}
@@ -25,7 +25,7 @@ symbols_at (suc n) v c (suc r) h = let e : n - 1 - r ≡ suc n - 1 - suc r = ome
 
 -- rows that are made one by one, all of one width
 module _ {X : Type 0} (f : X → Symbols) (n : ℕ) (wide : (x : X) → length (f x) ≡ n) where
-  pub rows_even : (xs : List X) → All (λ r. length r ≡ n) (map f xs)
+  pub rows_even : (xs : List X) → AllByRecursion (λ r. length r ≡ n) (map f xs)
   rows_even [] = tt
   rows_even (x ∷ xs) = (wide x, rows_even xs)
 
@@ -47,7 +47,7 @@ module _ {X : Type 0} (f : X → Symbols) (n : ℕ) (wide : (x : X) → length (
       get_or_past (all_symbols (map f xs)) i Zero (omega arith)
 
 -- the bytes of a sheet, one by one
-module _ (width : ℕ) (rows : List Symbols) (even : All (λ r. length r ≡ width) rows) (wide : width ≤ 32) (few : length rows ≤ 120) where
+module _ (width : ℕ) (rows : List Symbols) (even : AllByRecursion (λ r. length r ≡ width) rows) (wide : width ≤ 32) (few : length rows ≤ 120) where
   at_bits : (k : ℕ) → k < size_of_sheet width (length rows) → get_or (bytes_of (sheet_bits width rows)) k 0 ≡ value (filled 8 (drop (8 * k) (sheet_bits width rows)))
   unfolding bytes_of
   at_bits k h =

@@ -1,6 +1,6 @@
 -- What a sheet says about itself: it has one reading, and whatever is not refused is a sheet.
 use Rattle.std.proofs.Common.{◌≡◌, ℕ, ◌+◌, ◌-◌, ◌*◌, ◌/◌, ◌^◌, ◌<◌, ◌≤◌, true, false, ◌&&◌, List, [], ◌∷◌, ◌++◌, length, take, drop, sym, refl, ap, ◌∙◌, ap₂, arith}
-use Rattle.std.specs.List.{flat_map, AllByRecursion as All}
+use Rattle.std.specs.List.{flat_map, AllByRecursion}
 use Rattle.std.proofs.lemmas.List.{length-append, length-take-le, length-drop, take_at, drop_at, drop-drop, take-append-drop}
 use Rattle.std.proofs.lemmas.Bool.{and_parts}
 use Rattle.covers.specs.Digits.{Digits, digits, value, all_zeros}
@@ -22,7 +22,7 @@ abbrev pub rows_in : List ℕ → List Symbols
 rows_in sheet = cut (width_field sheet) (count_field sheet) (symbols_of (symbol_bits sheet))
 
 -- how long the bits of a sheet are
-pub length_sheet_bits : (width : ℕ) (rows : List Symbols) → All (λ r. length r ≡ width) rows → length (sheet_bits width rows) ≡ 16 + 2 * (length rows * width)
+pub length_sheet_bits : (width : ℕ) (rows : List Symbols) → AllByRecursion (λ r. length r ≡ width) rows → length (sheet_bits width rows) ≡ 16 + 2 * (length rows * width)
 unfolding sheet_bits
 length_sheet_bits width rows even =
     let c = length_codes (all_symbols rows) in
@@ -30,7 +30,7 @@ length_sheet_bits width rows even =
     let e : length (flat_map code (all_symbols rows)) ≡ 2 * (length rows * width) = c ∙ ap (λ k. 2 * k) l in
     omega arith
 
-pub length_sheet : (width : ℕ) (rows : List Symbols) → All (λ r. length r ≡ width) rows → length (bytes_of (sheet_bits width rows)) ≡ size_of_sheet width (length rows)
+pub length_sheet : (width : ℕ) (rows : List Symbols) → AllByRecursion (λ r. length r ≡ width) rows → length (bytes_of (sheet_bits width rows)) ≡ size_of_sheet width (length rows)
 unfolding bytes_of size_of_sheet
 length_sheet width rows even =
     let l = length_sheet_bits width rows even in
@@ -100,7 +100,7 @@ module _ (width : ℕ) (rows : List Symbols) (sheet : List ℕ) (is : Sheet widt
       }
 
 -- whatever is long enough, has known symbols and zeros where they belong, is a sheet
-module _ (sheet : List ℕ) (fit : All (λ b. b < 256) sheet) (two : 2 ≤ length sheet) (few : count_field sheet ≤ 120)
+module _ (sheet : List ℕ) (fit : AllByRecursion (λ b. b < 256) sheet) (two : 2 ≤ length sheet) (few : count_field sheet ≤ 120)
     (size : length sheet ≡ size_of_sheet (width_field sheet) (count_field sheet)) (known : unknown_code (symbol_bits sheet) ≡ false) (zeros : all_zeros (zero_bits sheet) ≡ true) where
   long : length (bits_of sheet) ≡ 8 * length sheet
   long = length_bits sheet
@@ -115,7 +115,7 @@ module _ (sheet : List ℕ) (fit : All (λ b. b < 256) sheet) (two : 2 ≤ lengt
   pub length_read : length (symbols_of (symbol_bits sheet)) ≡ count_field sheet * width_field sheet
   length_read = length_symbols_of (count_field sheet * width_field sheet) (symbol_bits sheet) symbol_length
 
-  even : All (λ r. length r ≡ width_field sheet) (rows_in sheet)
+  even : AllByRecursion (λ r. length r ≡ width_field sheet) (rows_in sheet)
   even = cut_even (width_field sheet) (count_field sheet) (symbols_of (symbol_bits sheet)) length_read
 
   field : (n : ℕ) (u : Digits) → length u ≡ n → u ≡ digits n (value u)

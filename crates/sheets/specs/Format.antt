@@ -1,6 +1,6 @@
 -- The packed sheet: rows as bits, and bits as bytes.
 use Rattle.std.specs.Prelude.{◌≡◌, ℕ, zero, suc, ◌+◌, ◌-◌, ◌*◌, ◌/◌, ◌≤◌, true, false, List, [], ◌∷◌, ◌++◌, length, drop}
-use Rattle.std.specs.List.{flat_map, AllByRecursion as All}
+use Rattle.std.specs.List.{flat_map, AllByRecursion}
 use Rattle.covers.specs.declared.symbol.Symbol.{Symbol}
 use Rattle.covers.specs.declared.symbol.Symbol.TheVariants.{Zero, One, Dash}
 use Rattle.covers.specs.Digits.{Digits, digits, value}
@@ -56,5 +56,5 @@ pub record Sheet (width : ℕ) (rows : List Symbols) (sheet : List ℕ) : Type 0
   pub low : 1 ≤ width
   pub high : width ≤ 32
   pub few : length rows ≤ most_rows
-  pub even : All (λ r. length r ≡ width) rows
+  pub even : AllByRecursion (λ r. length r ≡ width) rows
   pub same : sheet ≡ bytes_of (sheet_bits width rows)

@@ -2,7 +2,7 @@
 #![tactic(auto)]
 
 mod piles;
-mod ranges;
+mod range_rows;
 mod sheets;
 mod show;
 mod witnesses;
@@ -10,9 +10,9 @@ mod witnesses;
 use std::io;
 
 fn main(rt: HostRuntime) -> io::Result<()> {
-    ranges::worked_ranges(&rt)?;
-    ranges::wide_ranges(&rt)?;
-    ranges::refused_ranges(&rt)?;
+    range_rows::worked_ranges(&rt)?;
+    range_rows::wide_ranges(&rt)?;
+    range_rows::refused_ranges(&rt)?;
     sheets::packed_ranges(&rt)?;
     sheets::unpacked_rows(&rt)?;
     witnesses::rows_and_witnesses(&rt)?;

@@ -1,5 +1,5 @@
 use Rattle.std.proofs.Common.{◌≡◌, ◌*◌, ◌≤◌, map, length, take}
-use Rattle.std.specs.List.{AllByRecursion as All}
+use Rattle.std.specs.List.{AllByRecursion}
 use Rattle.covers.specs.Rules.{rows_of_runs}
 use Rattle.covers.specs.Theorems.{Run}
 use Rattle.rows.specs.Widths.{places_of}
@@ -11,7 +11,7 @@ use Rattle.filter.proofs.placing.place_runs.Given as goal
 abbrev pub invariant-loop-i : goal.invariant-loop-i
 invariant-loop-i g l =
     (l.next ≤ 62 * l.i) ×
-    (places_of l.width ≡ (g.D.RowDevice.state l.initial.device).width → All (λ r. Run (places_of l.width) r.0 r.1) (table_runs l.runs) →
+    (places_of l.width ≡ (g.D.RowDevice.state l.initial.device).width → AllByRecursion (λ r. Run (places_of l.width) r.0 r.1) (table_runs l.runs) →
     length (rows_of_runs (places_of l.width) (table_runs l.runs)) ≤ length (g.D.RowDevice.state l.initial.device).slots →
     (g.D.RowDevice.state l.device ≡ with_slots (g.D.RowDevice.state l.initial.device) 0 (map slot_with (rows_of_runs (places_of l.width) (take l.i (table_runs l.runs))))) ×
     (l.next ≡ length (rows_of_runs (places_of l.width) (take l.i (table_runs l.runs)))))

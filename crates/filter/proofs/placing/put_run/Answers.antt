@@ -1,5 +1,5 @@
 use Rattle.std.proofs.Common.{◌≡◌, ◌^◌, ◌<◌, map, length, sym, ap, ◌∙◌, subst, arith}
-use Rattle.std.specs.List.{AllByRecursion as All}
+use Rattle.std.specs.List.{AllByRecursion}
 use Rattle.std.proofs.lemmas.List.{length-map}
 use Rattle.covers.specs.Rules.{rows_of_range}
 use Rattle.covers.proofs.RangeLists.{range_long}
@@ -28,8 +28,8 @@ returns-in-Ok g c =
           let is : c.min-count.result ≡ c.in-Ok.count = omega arith in
           let part = scratch_start (map words_of rows) c.rows_of_range.new.memory _ c.min-count.result c.in-Ok.ensures.written (is ∙ count ∙ sym long) in
           let size = ap length part in
-          let narrow = subst (λ k. All (λ v. v.care < 2 ^ k) (map words_of rows)) same (words_narrow n rows (range_long n f l)) in
-          c.put_rows.ensures.after (subst (λ q. All (λ v. v.care < 2 ^ s.width) q) (sym part) narrow) (omega arith) ∙
+          let narrow = subst (λ k. AllByRecursion (λ v. v.care < 2 ^ k) (map words_of rows)) same (words_narrow n rows (range_long n f l)) in
+          c.put_rows.ensures.after (subst (λ q. AllByRecursion (λ v. v.care < 2 ^ s.width) q) (sym part) narrow) (omega arith) ∙
           ap (with_slots s c.args.at) (ap (map slot_read) part ∙ words_read rows);
       next = λ hf hl.
           let count = granted_count w f l c.in-Ok.count c.in-Ok.ensures.answer hf hl in
