@@ -4,7 +4,6 @@
 mod packed_sheets;
 mod piles;
 mod range_rows;
-
 mod show;
 mod witnesses;
 
