@@ -17,6 +17,7 @@ pub mod RowWords
 pub mod NarrowestWords
 pub mod RowLengths
 pub mod RowCounts
+pub mod Searches
 pub mod Masks
 pub mod RangeLists
 pub mod Turned

@@ -4,9 +4,7 @@ use Rattle.rows.specs.declared.width.Width.{Width}
 use Rattle.rows.specs.Widths.{places_of}
 
 pub places_some : (w : Width) → 1 ≤ places_of w
-unfolding places_of
 places_some w = omega arith
 
 pub places_most : (w : Width) → places_of w ≤ 32
-unfolding places_of
 places_most w = omega arith

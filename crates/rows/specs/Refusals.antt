@@ -1,5 +1,5 @@
 -- The numbers of the refusals.
-use Rattle.std.specs.Prelude.{ℕ}
+use Rattle.std.specs.Prelude.{ℕ, List, ◌++◌, codes, decimal}
 use Rattle.rows.specs.declared.refusal.Refusal.{Refusal}
 use Rattle.rows.specs.declared.refusal.Refusal.TheVariants.{WidthOutOfRange, NumberOutsideWidth, MemoryTooShort, NoSuchSlot, RowOutsideWidth, TooManyRuns, TooManyRows, FilterHeld, NotHeld, SheetTooShort, UnknownSymbol, SheetNotClean, MalformedLine}
 
@@ -17,3 +17,7 @@ number_of SheetTooShort = 10
 number_of UnknownSymbol = 11
 number_of SheetNotClean = 12
 number_of MalformedLine = 13
+
+-- a refusal as it is printed, as "refused 4"
+abbrev pub refusal_text : Refusal → List ℕ
+refusal_text refusal = codes "refused " ++ decimal (number_of refusal)

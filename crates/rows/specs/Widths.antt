@@ -5,7 +5,7 @@ use Rattle.rows.specs.declared.refusal.Refusal.TheVariants.{WidthOutOfRange}
 use Rattle.rows.specs.declared.width.Width.{Width}
 
 -- the number of places, 1 to 32: every value of the type has one
-unfoldable pub places_of : Width → ℕ
+abbrev pub places_of : Width → ℕ
 places_of w = w.spare % 32 + 1
 
 -- what making a width of a number answers: the width of so many places, or the refusal of a number outside 1 to 32

@@ -1,8 +1,11 @@
-// Widths, refusals, rows, and the narrowest row of two numbers.
+// Widths, ranges, refusals, rows, and the narrowest row of two numbers.
 #![tactic(auto)]
 
+pub mod digit;
 pub mod narrowest;
+pub mod range;
 pub mod refusal;
 pub mod row;
+pub mod row_text;
 pub mod row_words;
 pub mod width;

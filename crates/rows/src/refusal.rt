@@ -1,57 +1,54 @@
 // The refusals of the whole project, and their numbers.
-ghost use Rattle.std.specs.Prelude.{◌≡◌};
-ghost use Rattle.rows.specs.Refusals.{number_of};
+ghost use Rattle.std.specs.Prelude.{◌≡◌, Some};
+ghost use Rattle.rows.specs.Refusals.{number_of, refusal_text};
+
+use std::fmt;
 
 // Why a call was refused.
 #[derive(Clone, Copy, PartialEq, Eq, Debug)]
 pub enum Refusal {
     // a width outside 1 to 32
-    WidthOutOfRange,
+    WidthOutOfRange = 1,
     // a number that has more digits than the width
-    NumberOutsideWidth,
+    NumberOutsideWidth = 2,
     // memory shorter than what is to be written
-    MemoryTooShort,
+    MemoryTooShort = 3,
     // a slot at or beyond the device's slot count
-    NoSuchSlot,
+    NoSuchSlot = 4,
     // a row that cares beyond the last places of the width
-    RowOutsideWidth,
+    RowOutsideWidth = 5,
     // a set of more than 16 runs
-    TooManyRuns,
+    TooManyRuns = 6,
     // more rows than there is room for: the slots, or 120 on a sheet
-    TooManyRows,
+    TooManyRows = 7,
     // the filter is held
-    FilterHeld,
+    FilterHeld = 8,
     // the filter is not held, or the token is another filter's
-    NotHeld,
+    NotHeld = 9,
     // a sheet that ends too early
-    SheetTooShort,
+    SheetTooShort = 10,
     // a symbol that is none of 0, 1 and dash
-    UnknownSymbol,
+    UnknownSymbol = 11,
     // a filling bit that is no zero, or a byte after the last row
-    SheetNotClean,
+    SheetNotClean = 12,
     // a line that is no command
-    MalformedLine,
+    MalformedLine = 13,
 }
 
-impl Refusal {
+impl From<Refusal> for u32 {
+    ghost from_gives = { λ refusal number. number ≡ number_of refusal };
+
     // The number by which the refusal is known outside.
-    pub fn number(self) -> u32
-        ensures value { result ≡ number_of self }
-    {
-        match self {
-            Refusal::WidthOutOfRange => 1,
-            Refusal::NumberOutsideWidth => 2,
-            Refusal::MemoryTooShort => 3,
-            Refusal::NoSuchSlot => 4,
-            Refusal::RowOutsideWidth => 5,
-            Refusal::TooManyRuns => 6,
-            Refusal::TooManyRows => 7,
-            Refusal::FilterHeld => 8,
-            Refusal::NotHeld => 9,
-            Refusal::SheetTooShort => 10,
-            Refusal::UnknownSymbol => 11,
-            Refusal::SheetNotClean => 12,
-            Refusal::MalformedLine => 13,
-        }
+    fn from(refusal: Refusal) -> u32 {
+        refusal as u32
+    }
+}
+
+// "refused" and the number.
+impl fmt::Display for Refusal {
+    ghost output = { λ refusal. Some (refusal_text refusal) };
+
+    fn fmt<W: fmt::Write>(&self, f: &mut fmt::Formatter<W>) -> fmt::Result {
+        write!(f, "refused {}", *self as u32)
     }
 }

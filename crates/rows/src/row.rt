@@ -1,9 +1,10 @@
 // A row: the numbers that it takes are those that agree with its value at every place where it cares.
 ghost use Rattle.std.specs.Prelude.{◌≡◌, ℕ, ◌^◌, ◌<◌, ◌==◌, bit_and};
-ghost use Rattle.covers.specs.Digits.{digit, digits};
+ghost use Rattle.covers.specs.Digits.{digits};
 ghost use Rattle.covers.specs.Symbols.{takes};
 ghost use Rattle.covers.specs.Words.{symbol_at, symbols};
 
+use super::digit::has_one;
 use super::row_words::RowWords;
 use covers::symbol::Symbol;
 
@@ -27,25 +28,6 @@ impl Row {
         }
     }
 
-    // The row that two words in memory stand for.
-    pub fn read(words: RowWords) -> Row
-        ensures value { result.value ≡ bit_and words.value words.care }
-        ensures care { result.care ≡ words.care }
-    {
-        Row::new(words.value, words.care)
-    }
-
-    // The row as words for memory.
-    pub fn words(self) -> RowWords
-        ensures value { result.value ≡ self.value }
-        ensures care { result.care ≡ self.care }
-    {
-        RowWords {
-            value: self.value,
-            care: self.care,
-        }
-    }
-
     pub fn value(self) -> u32
         ensures value { result ≡ self.value }
     {
@@ -62,9 +44,9 @@ impl Row {
     pub fn symbol_at(self, place: u32) -> Symbol
         ensures value { result ≡ symbol_at self.value self.care place }
     {
-        if !digit_at(self.care, place) {
+        if !has_one(u64::from(self.care), place) {
             Symbol::Dash
-        } else if digit_at(self.value, place) {
+        } else if has_one(u64::from(self.value), place) {
             Symbol::One
         } else {
             Symbol::Zero
@@ -80,9 +62,23 @@ impl Row {
     }
 }
 
-// Whether the word has a 1 at the place.
-fn digit_at(word: u32, place: u32) -> bool
-    ensures value { result ≡ digit place word }
-{
-    place < 32 && (word >> place) & 1 == 1
+impl From<RowWords> for Row {
+    ghost from_gives = { λ words row. (row.value ≡ bit_and words.value words.care) × (row.care ≡ words.care) };
+
+    // The row that two words in memory stand for.
+    fn from(words: RowWords) -> Row {
+        Row::new(words.value, words.care)
+    }
+}
+
+impl From<Row> for RowWords {
+    ghost from_gives = { λ row words. (words.value ≡ row.value) × (words.care ≡ row.care) };
+
+    // The row as words for memory.
+    fn from(row: Row) -> RowWords {
+        RowWords {
+            value: row.value,
+            care: row.care,
+        }
+    }
 }

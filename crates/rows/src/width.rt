@@ -1,20 +1,24 @@
 // The width: how many digits the numbers have.
 ghost use Rattle.std.specs.Prelude.{◌≡◌, ◌^◌, ◌≤◌};
-ghost use Rattle.rows.specs.Widths.{places_of, WidthMade};
 
 use super::refusal::Refusal;
 
 // A number of places from 1 to 32, kept as one less, of which five bits count: so every value is a width.
+// No ghost field, since a device over lent memory that has such a field could not lie below a layer or a filter.
 #[derive(Clone, Copy, PartialEq, Eq, Debug)]
 pub struct Width {
     spare: u32,
 }
 
-impl Width {
+impl TryFrom<u64> for Width {
+    ghost use Rattle.rows.specs.Widths.{WidthMade};
+
+    type Error = Refusal;
+
+    ghost try_from_gives = { WidthMade };
+
     // The width of so many places, refused outside 1 to 32.
-    pub fn new(places: u64) -> Result<Width, Refusal>
-        ensures made { WidthMade places result }
-    {
+    fn try_from(places: u64) -> Result<Width, Refusal> {
         if 1 <= places && places <= 32 {
             Ok(Width {
                 spare: (places - 1) as u32,
@@ -23,6 +27,10 @@ impl Width {
             Err(Refusal::WidthOutOfRange)
         }
     }
+}
+
+impl Width {
+    ghost use Rattle.rows.specs.Widths.{places_of};
 
     // The number of places.
     pub fn places(self) -> u32

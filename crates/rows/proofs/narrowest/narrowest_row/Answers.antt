@@ -1,4 +1,4 @@
-use Rattle.std.proofs.Common.{◌≡◌, ℕ, ◌-◌, ◌^◌, ◌<◌, true, sym, ap, ◌∙◌, subst, ap₂, arith, pow_pos, pow_mono}
+use Rattle.std.proofs.Common.{◌≡◌, ℕ, ◌-◌, ◌^◌, ◌<◌, true, sym, ap, ◌∙◌, subst, ap₂, arith, pow_pos}
 use lib.Bits.{bit_and, bit_xor, xor_lt}
 use Rattle.std.proofs.lemmas.Bool.{lt-ltb}
 use Rattle.covers.specs.Words.{symbols}
@@ -6,7 +6,6 @@ use Rattle.covers.proofs.NarrowestWords.{narrowest_words, narrowest_both, narrow
 use Rattle.rows.specs.NarrowestRows.{TakesBoth, TakesLeast}
 use Rattle.rows.specs.Widths.{in_width}
 use Rattle.rows.specs.Widths.{places_of}
-use Rattle.rows.proofs.Widths.{places_most}
 use Rattle.rows.proofs.narrowest.narrowest_row.Goals as goal
 
 pub overflow_sub-care-2 : goal.overflow_sub-care-2
@@ -14,19 +13,6 @@ overflow_sub-care-2 c =
     let n = places_of c.args.width in
     let lim = c.limit-limit.ensures.value in
     let x = xor_lt (places_of c.args.width) c.args.first c.args.second (omega arith) (omega arith) in
-    omega arith
-
-pub overflow_cast-first : goal.overflow_cast-first
-overflow_cast-first c =
-    let lim = c.limit-limit.ensures.value in
-    let m = pow_mono {i = places_of c.args.width} {j = 32} (places_most c.args.width) in
-    omega arith
-
-pub overflow_cast-care : goal.overflow_cast-care
-overflow_cast-care c =
-    let lim = c.limit-limit.ensures.value in
-    let m = pow_mono {i = places_of c.args.width} {j = 32} (places_most c.args.width) in
-    let p = pow_pos (places_of c.args.width) in
     omega arith
 
 -- both numbers are of the width

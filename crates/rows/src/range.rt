@@ -1,0 +1,34 @@
+// A range of numbers.
+ghost use Rattle.std.specs.Prelude.{◌≡◌};
+ghost use Rattle.covers.specs.Rivals.{in_range};
+ghost use Rattle.rows.specs.Widths.{places_of, in_width};
+
+use super::width::Width;
+
+// From its first number up the circle to its last: one whose first number is above its last goes round.
+#[derive(Clone, Copy, PartialEq, Eq, Default, Debug)]
+pub struct Range {
+    pub first: u64,
+    pub last: u64,
+}
+
+impl Range {
+    // Whether both ends are numbers of the width.
+    pub fn is_within(self, width: Width) -> bool
+        ensures value { result ≡ in_width (places_of width) self.first self.last }
+    {
+        let limit = width.limit();
+        self.first < limit && self.last < limit
+    }
+
+    // Whether the range has the number.
+    pub fn contains(self, number: u64) -> bool
+        ensures value { result ≡ in_range self.first self.last number }
+    {
+        if self.first <= self.last {
+            self.first <= number && number <= self.last
+        } else {
+            self.first <= number || number <= self.last
+        }
+    }
+}
