@@ -1,10 +1,10 @@
 -- The list of 0a to 1b, rule by rule, as words behind the lead.
-use Rattle.std.proofs.Common.{◌≡◌, ℕ, suc, ◌+◌, ◌-◌, ◌^◌, ◌<◌, ◌≤◌, Bool, true, false, cond, List, [], ◌∷◌, ◌++◌, map, length, sym, refl, ap, ◌∙◌, ap₂, inl, inr, zero-add, arith, pow_pos}
-use Rattle.std.proofs.lemmas.List.{map-append, length-map, length-append}
+use Rattle.std.proofs.Common.{◌≡◌, ℕ, suc, ◌+◌, ◌-◌, ◌^◌, ◌<◌, ◌≤◌, Bool, true, false, List, [], ◌∷◌, ◌++◌, map, length, sym, refl, ap, ◌∙◌, ap₂, inl, inr, arith, pow_pos}
+use Rattle.std.proofs.lemmas.List.{map-append}
 use Rattle.std.proofs.lemmas.Bool.{cases_lt}
 use Rattle.covers.specs.declared.symbol.Symbol.{Symbol}
 use Rattle.covers.specs.declared.symbol.Symbol.TheVariants.{Zero, One, Dash}
-use Rattle.covers.specs.Digits.{digits}
+use Rattle.covers.specs.Digits.{digit, digits}
 use Rattle.covers.specs.Symbols.{Symbols}
 use Rattle.covers.specs.Rules.{swap, below, insert, widen, behind, straight_rows}
 use Rattle.covers.specs.RuleEquations.{plain}
@@ -13,9 +13,12 @@ use Rattle.covers.proofs.Numbers.{digits_1}
 use Rattle.covers.proofs.RowLengths.{Long, straight_rows_long}
 use Rattle.rows.specs.declared.row_words.RowWords.{RowWords}
 use Rattle.ranges.specs.declared.lead.Lead.{Lead}
-use Rattle.ranges.specs.Building.{behind_front, behind_lead, across_rows, end_list, Extended, Inserted, Widened}
+use Rattle.ranges.specs.declared.ends.End.{End}
+use Rattle.ranges.specs.declared.stretch.Stretch.{Stretch}
+use Rattle.ranges.specs.Building.{behind_front, behind_lead, across_rows, across_words, end_list, end_words, Counts, Extended, Inserted, Widened, Split}
+use Rattle.ranges.proofs.Stretches.{first_one, first_zero, last_one, last_zero, halves}
 use Rattle.ranges.proofs.Fronts.{symbol, extended_row, plain_behind, digit_behind}
-use Rattle.ranges.proofs.EndLists.{swap_behind, end_whole, turned_long}
+use Rattle.ranges.proofs.EndLists.{swap_behind, end_whole, end_is, turned_long}
 
 -- rows that all begin alike
 abbrev front_of : Lead → Symbol → RowWords
@@ -163,102 +166,73 @@ ends_apart_rows lead low second third high m a b ha far x y z t =
     (ap₂ (λ (w : RowWords) (l : List RowWords). w ∷ l) (two_dashes lead One false third m z)
     (two_rows lead One true high m t (end_list m (b + 1) false) (end_long m (b + 1) false))))
 
--- how many rows there are
-abbrev blank : RowWords
-blank = record { value = 0; care = 0 }
+-- the rules for the ends of a stretch: one of them is the lowest or the highest
+module _ (lead : Lead) (ends : Stretch) where
+  pub whole_at : ends.first ≡ 0 → ends.last + 1 ≡ 2 ^ ends.places → across_words lead ends ≡ lead.dash ∷ []
+  whole_at low top =
+      let e : ends.last ≡ 2 ^ ends.places - 1 = omega arith in
+      ap₂ (λ j k. map (behind_lead lead) (across_rows ends.places j k)) low e ∙ whole_rows lead ends.places
 
-abbrev pub blanks : Lead
-blanks = record { zero = blank; one = blank; dash = blank }
+  module _ (end : End) where
+    pub from_zero_at : ends.first ≡ 0 → (ends.last + 1 ≡ 2 ^ ends.places → ⊥) → Counts end ends.places (ends.last + 1) false →
+        across_words lead ends ≡ lead.zero ∷ end_words lead.one end
+    from_zero_at low top n =
+        let h = ends.last_within in
+        ap (λ j. map (behind_lead lead) (across_rows ends.places j ends.last)) low ∙ from_zero_rows lead ends.places ends.last (omega arith) ∙
+        ap {B = List RowWords} (λ l. lead.zero ∷ l) (sym (end_is lead.one end n))
 
-abbrev any : ℕ → Bool → RowWords
-any m d = record { value = cond d (2 ^ m) 0; care = 2 ^ m }
+    pub to_highest_at : (ends.first ≡ 0 → ⊥) → ends.last + 1 ≡ 2 ^ ends.places → Counts end ends.places (2 ^ ends.places - ends.first) true →
+        across_words lead ends ≡ lead.one ∷ end_words lead.zero end
+    to_highest_at low top n =
+        let b : ends.last ≡ 2 ^ ends.places - 1 = omega arith in
+        ap (λ j. map (behind_lead lead) (across_rows ends.places ends.first j)) b ∙ to_highest_rows lead ends.places ends.first (omega arith) ends.first_within ∙
+        ap {B = List RowWords} (λ l. lead.one ∷ l) (sym (end_is lead.zero end n))
 
-any_extends : (m : ℕ) (d : Bool) → Extended blank (any m d) m d
-any_extends m d = let v = cond d (2 ^ m) 0 in record { value = sym (zero-add v); care = sym (zero-add (2 ^ m)) }
+-- the same by their first digits and what is behind them
+module _ (lead : Lead) (ends rest : Stretch) (s : Split ends rest) where
+  same_ends : {a b : ℕ} → ends.first ≡ a → ends.last ≡ b → across_words lead ends ≡ map (behind_lead lead) (across_rows (suc rest.places) a b)
+  same_ends {a} {b} e f =
+      ap (λ k. map (behind_lead lead) (across_rows k ends.first ends.last)) s.places ∙
+      ap₂ (λ j k. map (behind_lead lead) (across_rows (suc rest.places) j k)) e f
 
-pub length_behind : (lead : Lead) (rows : List Symbols) (words : List RowWords) → map (behind_lead lead) rows ≡ words → length rows ≡ length words
-length_behind lead rows words e = sym (length-map rows (behind_lead lead)) ∙ ap length e
+  module _ (inner : Lead) (row : RowWords) (low : ends.first ≡ 0 → ⊥) (top : ends.last + 1 ≡ 2 ^ ends.places → ⊥) where
+    pub second_quarter_at : digit rest.places ends.first ≡ false → digit rest.places ends.last ≡ false → Extended lead.zero row rest.places true → Inserted lead inner rest.places false →
+        across_words lead ends ≡ row ∷ across_words inner rest
+    second_quarter_at x y e i =
+        let a = first_zero s x in
+        same_ends a (last_zero s y) ∙
+        second_quarter_rows lead inner row rest.places rest.first rest.last (omega arith) rest.first_within rest.last_within e i
 
-pub inner_quarters_length : (m a b : ℕ) → a < 2 ^ m → b < 2 ^ m →
-    length (across_rows (suc m) (2 ^ m + a) b) ≡ length (end_list m (2 ^ m - a) true) + length (end_list m (b + 1) false)
-inner_quarters_length m a b ha hb =
-    length_behind blanks (across_rows (suc m) (2 ^ m + a) b) _ (inner_quarters_rows blanks (any m true) (any m false) m a b ha hb (any_extends m true) (any_extends m false)) ∙
-    length-append (map (behind_front (any m true)) (end_list m (2 ^ m - a) true)) (map (behind_front (any m false)) (end_list m (b + 1) false)) ∙
-    ap₂ ◌+◌ (length-map (end_list m (2 ^ m - a) true) (behind_front (any m true))) (length-map (end_list m (b + 1) false) (behind_front (any m false)))
+    pub third_quarter_at : digit rest.places ends.first ≡ true → digit rest.places ends.last ≡ true → Extended lead.one row rest.places false → Inserted lead inner rest.places true →
+        across_words lead ends ≡ row ∷ across_words inner rest
+    third_quarter_at x y e i =
+        let b = last_one s y in
+        let d = halves s in
+        let h = rest.last_within in
+        same_ends (first_one s x) b ∙
+        third_quarter_rows lead inner row rest.places rest.first rest.last rest.first_within (omega arith) e i
 
-pub ends_apart_length : (m a b : ℕ) → a < 2 ^ m → b + 1 < a →
-    length (across_rows (suc m) a (2 ^ m + b)) ≡ length (end_list m (2 ^ m - a) true) + (2 + length (end_list m (b + 1) false))
-ends_apart_length m a b ha far =
-    let all = ends_apart_rows blanks (any m false) (any m true) (any m false) (any m true) m a b ha far (any_extends m false) (any_extends m true) (any_extends m false) (any_extends m true) in
-    let k = length_behind blanks (across_rows (suc m) a (2 ^ m + b)) _ all in
-    let j = length-append (map (behind_front (any m false)) (end_list m (2 ^ m - a) true)) (any m true ∷ any m false ∷ map (behind_front (any m true)) (end_list m (b + 1) false)) in
-    let i = length-map (end_list m (2 ^ m - a) true) (behind_front (any m false)) in
-    let h = length-map (end_list m (b + 1) false) (behind_front (any m true)) in
-    omega arith
+    pub ends_overlap_at : digit rest.places ends.first ≡ false → digit rest.places ends.last ≡ true → rest.first ≤ rest.last + 1 → Extended lead.zero row rest.places true → Widened lead inner rest.places →
+        across_words lead ends ≡ row ∷ across_words inner rest
+    ends_overlap_at x y near e i =
+        let a = first_zero s x in
+        let b = last_one s y in
+        let d = halves s in
+        let h = rest.last_within in
+        same_ends a b ∙
+        ends_overlap_rows lead inner row rest.places rest.first rest.last (omega arith) rest.first_within (omega arith) near e i
 
--- the rules at p places after the first digit, where h is half of what these places count
-module _ (lead inner : Lead) (row : RowWords) (p a b h : ℕ) (some : 0 < p) (half : h ≡ 2 ^ (p - 1)) where
-  places : suc (p - 1) ≡ p
-  places = omega arith
+-- both ends beside the middle: the highest numbers from the first on, and the lowest up to the last
+module _ (lead : Lead) (rest : Stretch) (low high : End) (from : Counts low rest.places (2 ^ rest.places - rest.first) true) (to : Counts high rest.places (rest.last + 1) false) where
+  pub inner_ends : (second third : RowWords) → Extended lead.zero second rest.places true → Extended lead.one third rest.places false →
+      map (behind_lead lead) (across_rows (suc rest.places) (2 ^ rest.places + rest.first) rest.last) ≡ end_words second low ++ end_words third high
+  inner_ends second third x y =
+      inner_quarters_rows lead second third rest.places rest.first rest.last rest.first_within rest.last_within x y ∙
+      ap₂ (λ (k l : List RowWords). k ++ l) (sym (end_is second low from)) (sym (end_is third high to))
 
-  pub second_quarter_at : 0 < a → a < h → b < h → Extended lead.zero row (p - 1) true → Inserted lead inner (p - 1) false →
-      map (behind_lead lead) (across_rows p a b) ≡ row ∷ map (behind_lead inner) (across_rows (p - 1) a b)
-  second_quarter_at q ha hb x y =
-      ap (λ k. map (behind_lead lead) (across_rows k a b)) (sym places) ∙ second_quarter_rows lead inner row (p - 1) a b q (omega arith) (omega arith) x y
-
-  pub third_quarter_at : h ≤ a → a < 2 ^ p → h ≤ b → b + 1 < 2 ^ p → Extended lead.one row (p - 1) false → Inserted lead inner (p - 1) true →
-      map (behind_lead lead) (across_rows p a b) ≡ row ∷ map (behind_lead inner) (across_rows (p - 1) (a - h) (b - h))
-  third_quarter_at la ha lb hb x y =
-      let e = ap (λ k. 2 ^ k) places in
-      let u : a ≡ 2 ^ (p - 1) + (a - h) = omega arith in
-      let v : b ≡ 2 ^ (p - 1) + (b - h) = omega arith in
-      ap (λ k. map (behind_lead lead) (across_rows k a b)) (sym places) ∙ ap₂ (λ k j. map (behind_lead lead) (across_rows (suc (p - 1)) k j)) u v ∙
-      third_quarter_rows lead inner row (p - 1) (a - h) (b - h) (omega arith) (omega arith) x y
-
-  pub ends_overlap_at : 0 < a → a < h → h ≤ b → b + 1 < 2 ^ p → a ≤ b - h + 1 → Extended lead.zero row (p - 1) true → Widened lead inner (p - 1) →
-      map (behind_lead lead) (across_rows p a b) ≡ row ∷ map (behind_lead inner) (across_rows (p - 1) a (b - h))
-  ends_overlap_at q ha lb hb near x y =
-      let e = ap (λ k. 2 ^ k) places in
-      let v : b ≡ 2 ^ (p - 1) + (b - h) = omega arith in
-      ap (λ k. map (behind_lead lead) (across_rows k a b)) (sym places) ∙ ap (λ j. map (behind_lead lead) (across_rows (suc (p - 1)) a j)) v ∙
-      ends_overlap_rows lead inner row (p - 1) a (b - h) q (omega arith) (omega arith) near x y
-
-abbrev any_lead : ℕ → Bool → Lead
-any_lead m d = record { zero = any m d; one = any m d; dash = any m d }
-
-any_inserted : (m : ℕ) (d : Bool) → Inserted blanks (any_lead m d) m d
-any_inserted m d = record { at_zero = any_extends m d; at_one = any_extends m d; at_dash = any_extends m d }
-
-one_more : (lead : Lead) (rows rest : List Symbols) (inner : Lead) (row : RowWords) → map (behind_lead lead) rows ≡ row ∷ map (behind_lead inner) rest → length rows ≡ suc (length rest)
-one_more lead rows rest inner row e = length_behind lead rows (row ∷ map (behind_lead inner) rest) e ∙ ap suc (length-map rest (behind_lead inner))
-
-module _ (p a b h : ℕ) (some : 0 < p) (half : h ≡ 2 ^ (p - 1)) where
-  pub second_quarter_length : 0 < a → a < h → b < h → length (across_rows p a b) ≡ suc (length (across_rows (p - 1) a b))
-  second_quarter_length q ha hb =
-      one_more blanks (across_rows p a b) (across_rows (p - 1) a b) (any_lead (p - 1) false) (any (p - 1) true)
-      (second_quarter_at blanks (any_lead (p - 1) false) (any (p - 1) true) p a b h some half q ha hb (any_extends (p - 1) true) (any_inserted (p - 1) false))
-
-  pub third_quarter_length : h ≤ a → a < 2 ^ p → h ≤ b → b + 1 < 2 ^ p → length (across_rows p a b) ≡ suc (length (across_rows (p - 1) (a - h) (b - h)))
-  third_quarter_length la ha lb hb =
-      one_more blanks (across_rows p a b) (across_rows (p - 1) (a - h) (b - h)) (any_lead (p - 1) true) (any (p - 1) false)
-      (third_quarter_at blanks (any_lead (p - 1) true) (any (p - 1) false) p a b h some half la ha lb hb (any_extends (p - 1) false) (any_inserted (p - 1) true))
-
-  pub ends_overlap_length : 0 < a → a < h → h ≤ b → b + 1 < 2 ^ p → a ≤ b - h + 1 → length (across_rows p a b) ≡ suc (length (across_rows (p - 1) a (b - h)))
-  ends_overlap_length q ha lb hb near =
-      one_more blanks (across_rows p a b) (across_rows (p - 1) a (b - h)) (record { zero = any (p - 1) false; one = blank; dash = blank }) (any (p - 1) true)
-      (ends_overlap_at blanks (record { zero = any (p - 1) false; one = blank; dash = blank }) (any (p - 1) true) p a b h some half q ha lb hb near (any_extends (p - 1) true)
-      (record { at_zero = any_extends (p - 1) false; at_one = refl; at_dash = refl }))
-
--- both ends beside the middle, at p places
-module _ (p a b h : ℕ) (some : 0 < p) (half : h ≡ 2 ^ (p - 1)) where
-  pub inner_quarters_at : h ≤ a → across_rows p a b ≡ across_rows (suc (p - 1)) (2 ^ (p - 1) + (a - h)) b
-  inner_quarters_at la =
-      let e : p ≡ suc (p - 1) = omega arith in
-      let u : a ≡ 2 ^ (p - 1) + (a - h) = omega arith in
-      ap₂ (λ k j. across_rows k j b) e u
-
-  pub ends_apart_at : h ≤ b → across_rows p a b ≡ across_rows (suc (p - 1)) a (2 ^ (p - 1) + (b - h))
-  ends_apart_at lb =
-      let e : p ≡ suc (p - 1) = omega arith in
-      let v : b ≡ 2 ^ (p - 1) + (b - h) = omega arith in
-      ap₂ (λ k j. across_rows k a j) e v
+  pub outer_ends : (first second third fourth : RowWords) → rest.last + 1 < rest.first →
+      Extended lead.zero first rest.places false → Extended lead.zero second rest.places true → Extended lead.one third rest.places false → Extended lead.one fourth rest.places true →
+      map (behind_lead lead) (across_rows (suc rest.places) rest.first (2 ^ rest.places + rest.last)) ≡ end_words first low ++ second ∷ third ∷ end_words fourth high
+  outer_ends first second third fourth far x y z t =
+      ends_apart_rows lead first second third fourth rest.places rest.first rest.last rest.first_within far x y z t ∙
+      ap₂ (λ (k l : List RowWords). k ++ second ∷ third ∷ l) (sym (end_is first low from)) (sym (end_is fourth high to))

@@ -1,9 +1,9 @@
 -- The numbers beside a range, place by place, as the code goes through them.
-use Rattle.std.proofs.Common.{◌≡◌, ℕ, suc, ◌+◌, ◌-◌, ◌%◌, ◌^◌, ◌<◌, Bool, true, false, cond, not, leb, [], ◌∷◌, sym, refl, ap, ◌∙◌, ap₂, arith}
+use Rattle.std.proofs.Common.{◌≡◌, ℕ, zero, suc, ◌+◌, ◌-◌, ◌%◌, ◌^◌, ◌<◌, Bool, true, false, cond, not, leb, [], ◌∷◌, sym, refl, ap, ◌∙◌, ap₂, arith}
 use mathlib.Core.Bool.{beq}
-use Rattle.std.proofs.lemmas.Bool.{both_ways, lt-ltb, eq-eqb, ne_eqb}
+use Rattle.std.proofs.lemmas.Bool.{not-true, not-false, ltb-true, eq-eqb, ne_eqb}
 use Rattle.covers.specs.Digits.{digit}
-use Rattle.covers.specs.WitnessNumbers.{alike, turned, each_turned, one_turned, inner_numbers, parting_numbers, numbers_beside, number_before, number_after, numbers_of_range}
+use Rattle.covers.specs.WitnessNumbers.{alike, under, turned, each_turned, one_turned, inner_numbers, parting_numbers, numbers_beside, number_before, number_after, numbers_of_range}
 use Rattle.covers.proofs.Turned.{each_turned_one, each_turned_other, inner_one, beside_parting, beside_shared, beside_one}
 
 -- the test of two digits
@@ -16,14 +16,6 @@ beq_alike false false = refl
 same_test : (x y r s t : Bool) → r ≡ x → s ≡ y → beq r s ≡ t → alike x y ≡ t
 same_test x y r s t e f k = ap₂ alike (sym e) (sym f) ∙ sym (beq_alike r s) ∙ k
 
-not-true : (x : Bool) → not x ≡ true → x ≡ false
-not-true false e = refl
-not-true true e = absurd (both_ways false refl e)
-
-not-false : (x : Bool) → not x ≡ false → x ≡ true
-not-false true e = refl
-not-false false e = absurd (both_ways true e refl)
-
 -- at p places, of which the first is p - 1
 module _ (p : ℕ) (some : 0 < p) where
   places : suc (p - 1) ≡ p
@@ -35,13 +27,6 @@ module _ (p : ℕ) (some : 0 < p) where
 
     pub each_at_other : beq r d ≡ false → each_turned d p x ≡ each_turned d (p - 1) x
     each_at_other k = ap (λ j. each_turned d j x) (sym places) ∙ each_turned_other d (p - 1) x (same_test (digit (p - 1) x) d r d false is refl k)
-
-  pub inner_at_one : (b a : ℕ) → b % 2 ^ p < a % 2 ^ p → inner_numbers p b a ≡ one_turned (p - 1) b a ∷ inner_numbers (p - 1) b a
-  inner_at_one b a h =
-      let e = ap (λ (j : ℕ). 2 ^ j) places in
-      let u = ap (λ j. b % j) e in
-      let v = ap (λ j. a % j) e in
-      ap (λ j. inner_numbers j b a) (sym places) ∙ inner_one (p - 1) b a (lt-ltb (b % 2 ^ suc (p - 1)) (a % 2 ^ suc (p - 1)) (omega arith))
 
   module _ (b a : ℕ) (r s : Bool) (is : r ≡ digit (p - 1) b) (is' : s ≡ digit (p - 1) a) where
     pub beside_at_parting : (over : Bool) → not (beq r s) ≡ true → numbers_beside over p b a ≡ parting_numbers (p - 1) b a
@@ -59,6 +44,11 @@ module _ (p : ℕ) (some : 0 < p) where
         ap₂ (λ t j. numbers_beside t j b a) o (sym places) ∙
         beside_shared (p - 1) b a (same_test (digit (p - 1) b) (digit (p - 1) a) r s true is is' (not-false (beq r s) k)) ∙
         ap (λ t. numbers_beside t (p - 1) b a) (sym o)
+
+-- as long as the number before is lower, some place is left
+pub inner_at_one : (p b a : ℕ) → under p b a ≡ true → inner_numbers p b a ≡ one_turned (p - 1) b a ∷ inner_numbers (p - 1) b a
+inner_at_one zero b a h = let z = ltb-true (b % 2 ^ 0) (a % 2 ^ 0) h in absurd (omega arith)
+inner_at_one (suc p) b a h = let e : suc p - 1 ≡ p = omega arith in inner_one p b a h ∙ ap (λ j. one_turned j b a ∷ inner_numbers j b a) (sym e)
 
 -- the numbers of a range, at p places and below a limit
 module _ (n f l p limit : ℕ) (size : p ≡ n) (top : limit ≡ 2 ^ n) where

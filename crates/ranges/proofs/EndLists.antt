@@ -1,9 +1,7 @@
 -- The lists of the lowest and the highest numbers, digit by digit.
-use Rattle.std.proofs.Common.{◌≡◌, ℕ, suc, ◌+◌, ◌-◌, ◌/◌, ◌%◌, ◌^◌, ◌<◌, ◌≤◌, Bool, true, false, cond, not, List, [], ◌∷◌, map, length, sym, refl, ap, ◌∙◌, ap₂, arith}
-use lib.Bits.{bit_and, and_mask}
+use Rattle.std.proofs.Common.{◌≡◌, ℕ, suc, ◌+◌, ◌-◌, ◌^◌, ◌<◌, ◌≤◌, Bool, true, false, cond, not, List, [], ◌∷◌, map, length, sym, refl, ap, ◌∙◌, ap₂, arith}
 use lib.Count.{ones}
 use Rattle.std.proofs.lemmas.List.{length-map}
-use Rattle.std.proofs.lemmas.Bool.{eq-eqb, ne_eqb}
 use Rattle.covers.specs.declared.symbol.Symbol.TheVariants.{Zero, One}
 use Rattle.covers.specs.Digits.{Digits, digits, digit}
 use Rattle.covers.specs.Symbols.{Symbols}
@@ -14,8 +12,9 @@ use Rattle.covers.proofs.RowCounts.{lowest_ones}
 use Rattle.covers.proofs.Numbers.{length_digits}
 use Rattle.covers.proofs.RowLengths.{Long, long_map, below_long}
 use Rattle.rows.specs.declared.row_words.RowWords.{RowWords}
-use Rattle.ranges.specs.Building.{behind_front, turned, end_list, Extended}
-use Rattle.ranges.proofs.Fronts.{symbol, extended_rows, digit_behind}
+use Rattle.ranges.specs.declared.ends.End.{End}
+use Rattle.ranges.specs.Building.{behind_front, turned, end_list, end_words, Counts, Extended}
+use Rattle.ranges.proofs.Fronts.{symbol, extended_rows, digit_behind, plain_behind}
 
 pub swap_behind : (d : Bool) (rows : List Symbols) → map (map swap) (map (λ r. symbol d ∷ r) rows) ≡ map (λ r. symbol (not d) ∷ r) (map (map swap) rows)
 swap_behind d [] = refl
@@ -61,15 +60,6 @@ below_step_0 front rest e m c d x =
 -- the rows that are still to be written at the last p places
 abbrev pub left_rows : RowWords → Bool → ℕ → ℕ → List RowWords
 left_rows front e p c = map (behind_front front) (turned e (below (digits p c)))
-
-pub left_length : (front : RowWords) (e : Bool) (p c : ℕ) → length (left_rows front e p c) ≡ length (below (digits p c))
-left_length front e p c = length-map (turned e (below (digits p c))) (behind_front front) ∙ turned_length e (below (digits p c))
-
-pub digit_one : (x p : ℕ) → bit_and (x / 2 ^ p) 1 ≡ 1 → digit p x ≡ true
-digit_one x p h = eq-eqb (x / 2 ^ p % 2) 1 (sym (and_mask (x / 2 ^ p) 1) ∙ h)
-
-pub digit_none : (x p : ℕ) → (bit_and (x / 2 ^ p) 1 ≡ 1 → ⊥) → digit p x ≡ false
-digit_none x p h = ne_eqb (x / 2 ^ p % 2) 1 (λ k. h (and_mask (x / 2 ^ p) 1 ∙ k))
 
 -- one place on
 pub left_at_one : (front here rest : RowWords) (e : Bool) (p c : ℕ) → 0 < p → digit (p - 1) c ≡ true → Extended front here (p - 1) e → Extended front rest (p - 1) (not e) →
@@ -117,3 +107,18 @@ unfolding end_list
 end_length m count e p h =
     let k : count - 1 + 1 ≡ count = omega arith in
     turned_length e (straight_rows m 0 (count - 1)) ∙ lowest_ones m (count - 1) (omega arith) ∙ ap ones k
+
+-- the words that are to be written, while not all numbers are in
+module _ (front : RowWords) (end : End) where
+  pub end_left : end.count < 2 ^ end.places → end_words front end ≡ left_rows front end.exchanged end.places end.count
+  end_left h = ap (map (behind_front front)) (end_below end.places end.count end.exchanged end.some h)
+
+  pub end_is : {m k : ℕ} {e : Bool} → Counts end m k e → end_words front end ≡ map (behind_front front) (end_list m k e)
+  end_is {m} {k} {e} n =
+      ap₂ (λ i j. map (behind_front front) (end_list i j end.exchanged)) n.places n.count ∙ ap (λ x. map (behind_front front) (end_list m k x)) n.exchanged
+
+  pub end_count : length (end_words front end) ≡ ones end.count
+  end_count = length-map (end_list end.places end.count end.exchanged) (behind_front front) ∙ end_length end.places end.count end.exchanged end.some end.count_within
+
+  pub end_all : end.count ≡ 2 ^ end.places → end_words front end ≡ front ∷ []
+  end_all h = ap (map (behind_front front)) (end_whole end.places end.count end.exchanged h) ∙ ap {B = List RowWords} (λ w. w ∷ []) (plain_behind front end.places)

@@ -1,3 +1,6 @@
+pub mod Handing
+pub mod Adding
+pub mod Stretches
 pub mod Fronts
 pub mod EndLists
 pub mod AcrossLists

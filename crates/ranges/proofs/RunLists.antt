@@ -1,24 +1,29 @@
 -- The lists of straight runs and of runs that go round, as words behind a front.
-use Rattle.std.proofs.Common.{◌≡◌, ℕ, zero, suc, ◌+◌, ◌-◌, ◌*◌, ◌/◌, ◌%◌, ◌^◌, ◌<◌, ◌≤◌, Bool, true, false, cond, List, [], ◌∷◌, ◌++◌, map, length, Ok, sym, refl, ap, ◌∙◌, ap₂, inl, inr, add_assoc, mod-lt, add-mul, zero-add, arith, pow_pos, pow_mono, pow-add}
+use Rattle.std.proofs.Common.{◌≡◌, ℕ, zero, suc, ◌+◌, ◌-◌, ◌*◌, ◌/◌, ◌%◌, ◌^◌, ◌<◌, ◌≤◌, Bool, true, false, cond, not, List, [], ◌∷◌, ◌++◌, map, length, Ok, sym, refl, ap, ◌∙◌, ap₂, inl, inr, add_assoc, mod-lt, add-mul, zero-add, arith, pow_pos, pow_mono, pow-add}
 use lib.Arith.{digits_lt}
 use lib.Bits.{bit_and, bit_xor, xor_shr, xor_self, xor_assoc, xor_zero_l, xor_zero_r, xor_lt}
 use Rattle.std.proofs.lemmas.Nat.{shr_split, shr_below, div_below, le-div}
 use Rattle.std.proofs.lemmas.List.{length-map, take_at}
-use Rattle.std.proofs.lemmas.Bool.{cases_lt, lt-ltb, le-leb}
+use Rattle.std.proofs.lemmas.Bool.{cases_lt, lt-ltb, le-leb, ltb-true, and_parts}
 use Rattle.covers.specs.declared.symbol.Symbol.TheVariants.{Zero, One, Dash}
+use Rattle.covers.specs.Digits.{digit}
+use Rattle.covers.specs.RuleEquations.{plain}
 use Rattle.covers.specs.Symbols.{Symbols}
 use Rattle.covers.specs.Words.{value_word, care_word, symbols}
-use Rattle.covers.specs.Rules.{swap_first, straight_rows, round_rows, rows_of_range}
+use Rattle.covers.specs.Rules.{swap_first, straight_rows, round_rows, rows_of_run, run_first, run_last, rows_of_range}
 use Rattle.covers.proofs.Equations.{equations_hold}
 use Rattle.covers.proofs.RowWords.{symbols_back, clean_word}
 use Rattle.covers.proofs.RowLengths.{Long, straight_rows_long, round_rows_long}
 use Rattle.rows.specs.declared.row_words.RowWords.{RowWords}
 use Rattle.ranges.specs.declared.lead.Lead.{Lead}
-use Rattle.ranges.specs.Building.{behind_front, behind_lead, across_rows, Extended, Begun}
+use Rattle.ranges.specs.declared.stretch.Stretch.{Stretch}
+use Rattle.ranges.specs.Building.{behind_front, behind_lead, across_rows, straight_words, round_words, across_words, Extended, Begun, Split}
 use Rattle.rows.specs.Memory.{words_of}
+use Rattle.rows.specs.Widths.{in_width}
 use Rattle.ranges.specs.RangeRows.{range_answer, rows_in}
 use Rattle.ranges.proofs.Fronts.{symbol, same_words, extended_row, extended_rows, digit_behind}
 use Rattle.ranges.proofs.EndLists.{extend}
+use Rattle.ranges.proofs.Stretches.{first_one, first_zero, first_low, last_one, last_zero, last_low, last_high, halves}
 
 -- one digit that both ends share
 shared_digit : (d : Bool) (m a b : ℕ) → a ≤ b → b < 2 ^ m →
@@ -94,13 +99,14 @@ shared_beginning p q a b front more le o hb same v c =
     ap₂ (λ x y. map (behind_front front) (straight_rows (p - q + q) x y)) (sym sa) (sym sb') ∙
     shared_digits (p - q) q (a / 2 ^ q) (a % 2 ^ q) (b % 2 ^ q) front more (omega arith) (mod-lt b (pow_pos q)) few (omega arith) (omega arith)
 
-pub shared_length : (p q a b : ℕ) → q ≤ p → a ≤ b → b < 2 ^ p → a / 2 ^ q ≡ b / 2 ^ q → length (straight_rows p a b) ≡ length (straight_rows q (a % 2 ^ q) (b % 2 ^ q))
-shared_length p q a b le o hb same =
-    let none : RowWords = record { value = 0; care = 0 } in
-    let more : RowWords = record { value = 0 + (a - a % 2 ^ q); care = 0 + (2 ^ p - 2 ^ q) } in
-    sym (length-map (straight_rows p a b) (behind_front none)) ∙
-    ap length (shared_beginning p q a b none more le o hb same refl refl) ∙
-    length-map (straight_rows q (a % 2 ^ q) (b % 2 ^ q)) (behind_front more)
+-- the same for a stretch whose ends agree before their last q places
+pub shared_words : (front more : RowWords) (ends rest : Stretch) (q : ℕ) → q ≤ ends.places → ends.first ≤ ends.last → ends.first / 2 ^ q ≡ ends.last / 2 ^ q →
+    rest.places ≡ q → rest.first ≡ ends.first % 2 ^ q → rest.last ≡ ends.last % 2 ^ q →
+    more.value ≡ front.value + (ends.first - ends.first % 2 ^ q) → more.care ≡ front.care + (2 ^ ends.places - 2 ^ q) →
+    straight_words front ends ≡ straight_words more rest
+shared_words front more ends rest q le o same p f l v c =
+    shared_beginning ends.places q ends.first ends.last front more le o ends.last_within same v c ∙
+    sym (ap (λ k. map (behind_front more) (straight_rows k rest.first rest.last)) p ∙ ap₂ (λ j k. map (behind_front more) (straight_rows q j k)) f l)
 
 -- what is left of both ends keeps their order
 pub order_left : (q a b : ℕ) → a ≤ b → a / 2 ^ q ≡ b / 2 ^ q → a % 2 ^ q ≤ b % 2 ^ q
@@ -141,6 +147,15 @@ differ_first a b m o hb h = elim (cases_lt a (2 ^ m)) [
         let v = le-div 1 x (2 ^ m) (pow_pos m) (omega arith) in
         omega arith
 
+-- the ends of a stretch, where the exclusive or is as long as they are
+pub ends_differ : {ends rest : Stretch} (s : Split ends rest) (q : ℕ) → ends.places ≤ q → 2 ^ q ≤ 2 * bit_xor ends.first ends.last + 1 → ends.first ≤ ends.last →
+    (ends.first < 2 ^ rest.places) × (2 ^ rest.places ≤ ends.last)
+ends_differ {ends} {rest} s q le apart o =
+    let m = pow_mono {i = ends.places} {j = q} le in
+    let d = halves s in
+    let h = ends.last_within in
+    differ_first ends.first ends.last rest.places o (omega arith) (omega arith)
+
 -- the rows of a range whose first digits differ, behind the lead
 begun_row : (front : RowWords) (lead : Lead) (m : ℕ) → Begun front lead m false → (r : Symbols) → length r ≡ suc m → behind_front front r ≡ behind_lead lead r
 begun_row front lead m x [] e = let z : ⊥ = omega arith in absurd z
@@ -162,71 +177,52 @@ swapped_list : (front : RowWords) (lead : Lead) (m : ℕ) → Begun front lead m
 swapped_list front lead m x [] h = refl
 swapped_list front lead m x (r ∷ rows) h = ap₂ (λ (w : RowWords) (l : List RowWords). w ∷ l) (swapped_row front lead m x r h.0) (swapped_list front lead m x rows h.1)
 
+-- a range whose first digits differ, behind a front
+module _ (front : RowWords) (ends rest : Stretch) (s : Split ends rest) where
+  pub straight_across : (lead : Lead) → ends.first < 2 ^ rest.places → 2 ^ rest.places ≤ ends.last → Begun front lead rest.places false →
+      straight_words front ends ≡ across_words lead rest
+  unfolding across_rows
+  straight_across lead low high x =
+      ap (λ k. map (behind_front front) (straight_rows k ends.first ends.last)) s.places ∙
+      ap₂ (λ j k. map (behind_front front) (straight_rows (suc rest.places) j k)) (first_low s low) (last_high s high) ∙
+      begun_list front lead rest.places x (across_rows rest.places rest.first rest.last) (straight_rows_long (suc rest.places) rest.first (2 ^ rest.places + rest.last))
+
+  same_ends : {a b : ℕ} → ends.first ≡ a → ends.last ≡ b → round_words front ends ≡ map (behind_front front) (round_rows (suc rest.places) a b)
+  same_ends {a} {b} e f =
+      ap (λ k. map (behind_front front) (round_rows k ends.first ends.last)) s.places ∙
+      ap₂ (λ j k. map (behind_front front) (round_rows (suc rest.places) j k)) e f
+
+  row_and_rest : (row inner : RowWords) (d : Bool) → Extended front row rest.places d → Extended front inner rest.places (not d) →
+      map (behind_front front) ((symbol d ∷ plain rest.places) ∷ map (λ r. symbol (not d) ∷ r) (round_rows rest.places rest.first rest.last)) ≡ row ∷ round_words inner rest
+  row_and_rest row inner d x y =
+      ap₂ (λ (w : RowWords) (l : List RowWords). w ∷ l) (digit_behind front row rest.places d x)
+      (extended_rows front inner rest.places (not d) y (round_rows rest.places rest.first rest.last) (round_rows_long rest.places rest.first rest.last))
+
+  pub round_low_at : (row inner : RowWords) → ends.last < ends.first → digit rest.places ends.first ≡ false → Extended front row rest.places true → Extended front inner rest.places false →
+      round_words front ends ≡ row ∷ round_words inner rest
+  round_low_at row inner o d x y =
+      let a = first_zero s d in
+      let h = rest.first_within in
+      let b = last_low s (omega arith) in
+      same_ends a b ∙ ap (map (behind_front front)) (equations_hold.round_low rest.places rest.first rest.last h (omega arith)) ∙ row_and_rest row inner true x y
+
+  pub round_high_at : (row inner : RowWords) → ends.last < ends.first → digit rest.places ends.first ≡ true → digit rest.places ends.last ≡ true → Extended front row rest.places false → Extended front inner rest.places true →
+      round_words front ends ≡ row ∷ round_words inner rest
+  round_high_at row inner o d e x y =
+      let a = first_one s d in
+      let b = last_one s e in
+      same_ends a b ∙ ap (map (behind_front front)) (equations_hold.round_high rest.places rest.first rest.last rest.first_within (omega arith)) ∙ row_and_rest row inner false x y
+
+  pub round_across_at : (lead : Lead) → digit rest.places ends.first ≡ true → digit rest.places ends.last ≡ false → Begun front lead rest.places true →
+      round_words front ends ≡ across_words lead rest
+  unfolding across_rows
+  round_across_at lead d e x =
+      same_ends (first_one s d) (last_zero s e) ∙
+      ap (map (behind_front front)) (equations_hold.round_across rest.places rest.first rest.last rest.first_within rest.last_within) ∙
+      swapped_list front lead rest.places x (across_rows rest.places rest.first rest.last) (straight_rows_long (suc rest.places) rest.first (2 ^ rest.places + rest.last))
+
 abbrev blank : RowWords
 blank = record { value = 0; care = 0 }
-
-one_more : (rows rest : List Symbols) (front more row : RowWords) → map (behind_front front) rows ≡ row ∷ map (behind_front more) rest → length rows ≡ suc (length rest)
-one_more rows rest front more row e = sym (length-map rows (behind_front front)) ∙ ap length e ∙ ap suc (length-map rest (behind_front more))
-
--- at p places, where h is half of what they count
-module _ (p a b h : ℕ) (some : 0 < p) (half : h ≡ 2 ^ (p - 1)) where
-  pub across_at : a < h → h ≤ b → straight_rows p a b ≡ across_rows (p - 1) a (b - h)
-  unfolding across_rows
-  across_at la lb =
-      let e : p ≡ suc (p - 1) = omega arith in
-      let v : b ≡ 2 ^ (p - 1) + (b - h) = omega arith in
-      ap₂ (λ k j. straight_rows k a j) e v
-
-  pub across_begun : (front : RowWords) (lead : Lead) → a < h → h ≤ b → Begun front lead (p - 1) false →
-      map (behind_front front) (straight_rows p a b) ≡ map (behind_lead lead) (across_rows (p - 1) a (b - h))
-  unfolding across_rows
-  across_begun front lead la lb x =
-      ap (map (behind_front front)) (across_at la lb) ∙ begun_list front lead (p - 1) x (across_rows (p - 1) a (b - h)) (straight_rows_long (suc (p - 1)) a (2 ^ (p - 1) + (b - h)))
-
-  pub round_low_at : (front row rest : RowWords) → b < a → a < h → Extended front row (p - 1) true → Extended front rest (p - 1) false →
-      map (behind_front front) (round_rows p a b) ≡ row ∷ map (behind_front rest) (round_rows (p - 1) a b)
-  round_low_at front row rest o ha x y =
-      let e : p ≡ suc (p - 1) = omega arith in
-      ap (λ k. map (behind_front front) (round_rows k a b)) e ∙ ap (map (behind_front front)) (equations_hold.round_low (p - 1) a b (omega arith) o) ∙
-      ap₂ (λ (w : RowWords) (l : List RowWords). w ∷ l) (digit_behind front row (p - 1) true x) (extended_rows front rest (p - 1) false y (round_rows (p - 1) a b) (round_rows_long (p - 1) a b))
-
-  pub round_high_at : (front row rest : RowWords) → b < a → h ≤ b → a < 2 ^ p → Extended front row (p - 1) false → Extended front rest (p - 1) true →
-      map (behind_front front) (round_rows p a b) ≡ row ∷ map (behind_front rest) (round_rows (p - 1) (a - h) (b - h))
-  round_high_at front row rest o lb ha x y =
-      let e : p ≡ suc (p - 1) = omega arith in
-      let pe = ap (λ k. 2 ^ k) e in
-      let u : a ≡ 2 ^ (p - 1) + (a - h) = omega arith in
-      let v : b ≡ 2 ^ (p - 1) + (b - h) = omega arith in
-      ap (λ k. map (behind_front front) (round_rows k a b)) e ∙ ap₂ (λ k j. map (behind_front front) (round_rows (suc (p - 1)) k j)) u v ∙
-      ap (map (behind_front front)) (equations_hold.round_high (p - 1) (a - h) (b - h) (omega arith) (omega arith)) ∙
-      ap₂ (λ (w : RowWords) (l : List RowWords). w ∷ l) (digit_behind front row (p - 1) false x) (extended_rows front rest (p - 1) true y (round_rows (p - 1) (a - h) (b - h)) (round_rows_long (p - 1) (a - h) (b - h)))
-
-  round_across_list : h ≤ a → a < 2 ^ p → b < h → round_rows p a b ≡ map swap_first (across_rows (p - 1) (a - h) b)
-  unfolding across_rows
-  round_across_list la ha hb =
-      let e : p ≡ suc (p - 1) = omega arith in
-      let pe = ap (λ k. 2 ^ k) e in
-      let u : a ≡ 2 ^ (p - 1) + (a - h) = omega arith in
-      ap (λ k. round_rows k a b) e ∙ ap (λ k. round_rows (suc (p - 1)) k b) u ∙ equations_hold.round_across (p - 1) (a - h) b (omega arith) (omega arith)
-
-  pub round_across_at : (front : RowWords) (lead : Lead) → h ≤ a → a < 2 ^ p → b < h → Begun front lead (p - 1) true →
-      map (behind_front front) (round_rows p a b) ≡ map (behind_lead lead) (across_rows (p - 1) (a - h) b)
-  unfolding across_rows
-  round_across_at front lead la ha hb x =
-      ap (map (behind_front front)) (round_across_list la ha hb) ∙ swapped_list front lead (p - 1) x (across_rows (p - 1) (a - h) b) (straight_rows_long (suc (p - 1)) (a - h) (2 ^ (p - 1) + b))
-
-  pub round_across_length : h ≤ a → a < 2 ^ p → b < h → length (round_rows p a b) ≡ length (across_rows (p - 1) (a - h) b)
-  round_across_length la ha hb = ap length (round_across_list la ha hb) ∙ length-map (across_rows (p - 1) (a - h) b) swap_first
-
-  pub round_low_length : b < a → a < h → length (round_rows p a b) ≡ suc (length (round_rows (p - 1) a b))
-  round_low_length o ha =
-      one_more (round_rows p a b) (round_rows (p - 1) a b) _ (extend blank (p - 1) false) (extend blank (p - 1) true)
-      (round_low_at blank (extend blank (p - 1) true) (extend blank (p - 1) false) o ha (record { value = refl; care = refl }) (record { value = refl; care = refl }))
-
-  pub round_high_length : b < a → h ≤ b → a < 2 ^ p → length (round_rows p a b) ≡ suc (length (round_rows (p - 1) (a - h) (b - h)))
-  round_high_length o lb ha =
-      one_more (round_rows p a b) (round_rows (p - 1) (a - h) (b - h)) _ (extend blank (p - 1) true) (extend blank (p - 1) false)
-      (round_high_at blank (extend blank (p - 1) false) (extend blank (p - 1) true) o lb ha (record { value = refl; care = refl }) (record { value = refl; care = refl }))
 
 -- the words of rows with nothing before them
 pub words_behind : (rows : List Symbols) → map (behind_front blank) rows ≡ map words_of rows
@@ -244,6 +240,17 @@ rows_read n rows rest k h e =
     back (r ∷ rows) h =
         ap₂ (λ (q : Symbols) (l : List Symbols). q ∷ l)
         (ap (λ v. symbols n v (care_word r)) (clean_word r) ∙ ap (λ m. symbols m (value_word r) (care_word r)) (sym h.0) ∙ symbols_back r) (back rows h.1)
+
+-- the run of a range
+pub run_is : (n f l : ℕ) (run : Stretch) → run.places ≡ n → run.first ≡ run_first f l → run.last ≡ run_last n f l → rows_of_run run.places run.first run.last ≡ rows_of_range n f l
+unfolding rows_of_range
+run_is n f l run p a b = ap (λ k. rows_of_run k run.first run.last) p ∙ ap₂ (rows_of_run n) a b
+
+-- the ends of a range that passed the test
+pub ends_within : (n f l : ℕ) (passed : Bool) → passed ≡ in_width n f l → passed ≡ true → (f < 2 ^ n) × (l < 2 ^ n)
+ends_within n f l passed e k =
+    let both = and_parts _ _ (sym e ∙ k) in
+    (ltb-true f (2 ^ n) both.0, ltb-true l (2 ^ n) both.1)
 
 -- a range of the width is granted where memory has room
 pub range_granted : (n f l room : ℕ) → f < 2 ^ n → l < 2 ^ n → length (rows_of_range n f l) ≤ room → range_answer n f l room ≡ Ok (length (rows_of_range n f l))

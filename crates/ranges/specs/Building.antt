@@ -1,11 +1,19 @@
 -- How lists of rows are written down: terms for the contracts of the private functions.
-use Rattle.std.specs.Prelude.{◌≡◌, ℕ, suc, ◌+◌, ◌-◌, ◌^◌, ◌≤◌, Bool, false, cond, not, List, [], ◌∷◌, map}
+use Rattle.std.specs.Prelude.{◌≡◌, ℕ, suc, ◌+◌, ◌-◌, ◌^◌, ◌≤◌, Bool, false, cond, not, List, [], ◌∷◌, map, length}
+use Rattle.arrayvec.specs.ArrayVec.{ArrayVec, array_vec_len}
 use Rattle.covers.specs.declared.symbol.Symbol.TheVariants.{Zero, One, Dash}
 use Rattle.covers.specs.Symbols.{Symbols}
 use Rattle.covers.specs.Words.{value_word, care_word}
-use Rattle.covers.specs.Rules.{swap, straight_rows}
+use Rattle.covers.specs.Digits.{digit}
+use Rattle.covers.specs.Rules.{swap, straight_rows, round_rows}
 use Rattle.rows.specs.declared.row_words.RowWords.{RowWords}
+use Rattle.ranges.specs.declared.ends.End.{End}
 use Rattle.ranges.specs.declared.lead.Lead.{Lead}
+use Rattle.ranges.specs.declared.stretch.Stretch.{Stretch}
+
+-- as many more items fit in the list of a range
+abbrev pub HasRoom : {X : Type 0} → ArrayVec X → List X → Type 0
+HasRoom list more = array_vec_len list + length more ≤ 62
 
 -- a front is a row with dashes at its last places; a row behind it stands at those places
 abbrev pub behind_front : RowWords → Symbols → RowWords
@@ -62,3 +70,30 @@ pub record Begun (front : RowWords) (lead : Lead) (m : ℕ) (exchanged : Bool) :
 -- the list of 0a to 1b, both with m digits behind the first
 unfoldable pub across_rows : ℕ → ℕ → ℕ → List Symbols
 across_rows m a b = straight_rows (suc m) a (2 ^ m + b)
+
+-- both ends are one digit and, behind it, the end of the rest
+pub record Split (ends rest : Stretch) : Type 0 where
+  pub places : ends.places ≡ suc rest.places
+  pub first : ends.first ≡ cond (digit rest.places ends.first) (2 ^ rest.places) 0 + rest.first
+  pub last : ends.last ≡ cond (digit rest.places ends.last) (2 ^ rest.places) 0 + rest.last
+
+-- the end is the k lowest numbers of m places or, exchanged, the highest
+pub record Counts (end : End) (m k : ℕ) (d : Bool) : Type 0 where
+  pub places : end.places ≡ m
+  pub count : end.count ≡ k
+  pub exchanged : end.exchanged ≡ d
+
+-- the rows of a stretch as words behind a front, where it is straight and where it goes round
+abbrev pub straight_words : RowWords → Stretch → List RowWords
+straight_words front ends = map (behind_front front) (straight_rows ends.places ends.first ends.last)
+
+abbrev pub round_words : RowWords → Stretch → List RowWords
+round_words front ends = map (behind_front front) (round_rows ends.places ends.first ends.last)
+
+-- the rows of 0a to 1b as words behind a lead
+abbrev pub across_words : Lead → Stretch → List RowWords
+across_words lead ends = map (behind_lead lead) (across_rows ends.places ends.first ends.last)
+
+-- the rows of the lowest or the highest numbers as words behind a front
+abbrev pub end_words : RowWords → End → List RowWords
+end_words front end = map (behind_front front) (end_list end.places end.count end.exchanged)

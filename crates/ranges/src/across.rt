@@ -1,147 +1,104 @@
 // The rows of a straight range whose first number begins with 0 and whose last begins with 1.
-ghost use Rattle.std.specs.Prelude.{◌≡◌, suc, ◌+◌, ◌^◌, ◌<◌, ◌≤◌, map, length};
-ghost use Rattle.ranges.specs.Building.{behind_lead, FreeLead, across_rows};
-ghost use Rattle.rows.specs.Memory.{written};
+ghost use Rattle.std.specs.Prelude.{◌≡◌, suc, ◌+◌, ◌^◌, ◌<◌, map};
+ghost use Rattle.arrayvec.specs.ArrayVec.{Extends};
+ghost use Rattle.ranges.specs.Building.{HasRoom, FreeLead, behind_lead, across_rows, across_words};
 
-use super::ends::end_rows;
 use super::front::extend;
 use super::lead::Lead;
-use rows::row_words::RowWords;
+use super::lists::RowList;
+use super::stretch::Stretch;
+use rows::digit::has_one;
 
-// Writes the rows of 0·first to 1·last, which have so many places after the first, and answers the index after them.
-// The inner range of a middle rule is one place shorter.
-pub(super) fn rows_across(
-    lead: Lead,
-    places: u32,
-    first: u64,
-    last: u64,
-    out: &mut [RowWords],
-    at: usize,
-) -> usize
-    requires places_within { places < 32 }
-    requires first_within { first < 2 ^ places }
-    requires last_within { last < 2 ^ places }
-    requires free { FreeLead places lead }
-    requires room { at + length (across_rows places first last) ≤ length out.old }
-    ensures rows { out.new ≡ written out.old at (map (behind_lead lead) (across_rows places first last)) }
-    ensures next { result ≡ at + length (across_rows places first last) }
+// Adds the rows of 0·first to 1·last. The inner range of a middle rule is one place shorter.
+pub(super) fn rows_across(lead: Lead, ends: Stretch, rows: &mut RowList)
+    requires places_within { ends.places < 32 }
+    requires free { FreeLead ends.places lead }
+    requires room { HasRoom rows.old (across_words lead ends) }
+    ensures rows { Extends rows.old (across_words lead ends) rows.new }
 {
-    let limit = 1u64 << places;
-    if first == 0 {
-        if last + 1 == limit {
-            // whole
-            out[at] = lead.dash;
-            return at + 1;
+    if ends.first == 0 {
+        return rows_from_zero(lead, ends, rows);
+    }
+    if ends.reaches_highest() {
+        let end = ends.from_first();
+        rows.push(lead.one);
+        return end.write_rows(lead.zero, rows);
+    }
+    let rest = ends.behind_first_digits();
+    let place = rest.places;
+    match (has_one(ends.first, place), has_one(ends.last, place)) {
+        (true, false) => rows_in_inner_quarters(lead, rest, rows),
+        (true, true) => {
+            // the third quarter is whole
+            let inner = lead.inserted(place, true);
+            rows.push(extend(lead.one, place, false));
+            rows_across(inner, rest, rows);
         }
-        // from zero
-        out[at] = lead.zero;
-        return end_rows(lead.one, places, last + 1, false, out, at + 1);
-    }
-    if last + 1 == limit {
-        // to the highest number
-        out[at] = lead.one;
-        return end_rows(lead.zero, places, limit - first, true, out, at + 1);
-    }
-    let place = places - 1;
-    let half = 1u64 << place;
-    if first >= half {
-        if last < half {
-            return rows_in_inner_quarters(lead, place, first - half, last, out, at);
+        (false, false) => {
+            // the second quarter is whole
+            let inner = lead.inserted(place, false);
+            rows.push(extend(lead.zero, place, true));
+            rows_across(inner, rest, rows);
         }
-        // the third quarter is whole
-        out[at] = extend(lead.one, place, false);
-        return rows_across(
-            lead.inserted(place, true),
-            place,
-            first - half,
-            last - half,
-            out,
-            at + 1,
-        );
+        (false, true) => {
+            if rest.first > rest.last + 1 {
+                return rows_of_ends_apart(lead, rest, rows);
+            }
+            // the ends overlap
+            let inner = lead.widened(place);
+            rows.push(extend(lead.zero, place, true));
+            rows_across(inner, rest, rows);
+        }
     }
-    if last < half {
-        // the second quarter is whole
-        out[at] = extend(lead.zero, place, true);
-        return rows_across(lead.inserted(place, false), place, first, last, out, at + 1);
+}
+
+// From 0: a row for all that begin with 0, and the lowest of those that begin with 1; or the whole.
+fn rows_from_zero(lead: Lead, ends: Stretch, rows: &mut RowList)
+    requires places_within { ends.places < 32 }
+    requires from_zero { ends.first ≡ 0 }
+    requires free { FreeLead ends.places lead }
+    requires room { HasRoom rows.old (across_words lead ends) }
+    ensures rows { Extends rows.old (across_words lead ends) rows.new }
+{
+    if ends.reaches_highest() {
+        rows.push(lead.dash);
+    } else {
+        let end = ends.to_last();
+        rows.push(lead.zero);
+        end.write_rows(lead.one, rows);
     }
-    if first > last - half + 1 {
-        return rows_of_ends_apart(lead, place, first, last - half, out, at);
-    }
-    // the ends overlap
-    out[at] = extend(lead.zero, place, true);
-    rows_across(lead.widened(place), place, first, last - half, out, at + 1)
 }
 
 // Both ends lie in the inner quarters, 01·first to 10·last.
-fn rows_in_inner_quarters(
-    lead: Lead,
-    place: u32,
-    first: u64,
-    last: u64,
-    out: &mut [RowWords],
-    at: usize,
-) -> usize
-    requires place_within { place < 31 }
-    requires first_within { first < 2 ^ place }
-    requires last_within { last < 2 ^ place }
-    requires free { FreeLead (suc place) lead }
-    requires room { at + length (across_rows (suc place) (2 ^ place + first) last) ≤ length out.old }
-    ensures rows { out.new ≡ written out.old at (map (behind_lead lead) (across_rows (suc place) (2 ^ place + first) last)) }
-    ensures next { result ≡ at + length (across_rows (suc place) (2 ^ place + first) last) }
+fn rows_in_inner_quarters(lead: Lead, rest: Stretch, rows: &mut RowList)
+    requires places_within { rest.places < 31 }
+    requires free { FreeLead (suc rest.places) lead }
+    requires room { HasRoom rows.old (map (behind_lead lead) (across_rows (suc rest.places) (2 ^ rest.places + rest.first) rest.last)) }
+    ensures rows { Extends rows.old (map (behind_lead lead) (across_rows (suc rest.places) (2 ^ rest.places + rest.first) rest.last)) rows.new }
 {
-    let half = 1u64 << place;
-    let next = end_rows(
-        extend(lead.zero, place, true),
-        place,
-        half - first,
-        true,
-        out,
-        at,
-    );
-    end_rows(
-        extend(lead.one, place, false),
-        place,
-        last + 1,
-        false,
-        out,
-        next,
-    )
+    let (from_first, to_last) = (rest.from_first(), rest.to_last());
+    let second = extend(lead.zero, rest.places, true);
+    let third = extend(lead.one, rest.places, false);
+    from_first.write_rows(second, rows);
+    to_last.write_rows(third, rows);
 }
 
 // The ends lie in the outer quarters and are apart, 00·first to 11·last.
-fn rows_of_ends_apart(
-    lead: Lead,
-    place: u32,
-    first: u64,
-    last: u64,
-    out: &mut [RowWords],
-    at: usize,
-) -> usize
-    requires place_within { place < 31 }
-    requires first_within { first < 2 ^ place }
-    requires apart { last + 1 < first }
-    requires free { FreeLead (suc place) lead }
-    requires room { at + length (across_rows (suc place) first (2 ^ place + last)) ≤ length out.old }
-    ensures rows { out.new ≡ written out.old at (map (behind_lead lead) (across_rows (suc place) first (2 ^ place + last))) }
-    ensures next { result ≡ at + length (across_rows (suc place) first (2 ^ place + last)) }
+fn rows_of_ends_apart(lead: Lead, rest: Stretch, rows: &mut RowList)
+    requires places_within { rest.places < 31 }
+    requires apart { rest.last + 1 < rest.first }
+    requires free { FreeLead (suc rest.places) lead }
+    requires room { HasRoom rows.old (map (behind_lead lead) (across_rows (suc rest.places) rest.first (2 ^ rest.places + rest.last))) }
+    ensures rows { Extends rows.old (map (behind_lead lead) (across_rows (suc rest.places) rest.first (2 ^ rest.places + rest.last))) rows.new }
 {
-    let half = 1u64 << place;
-    let next = end_rows(
-        extend(lead.zero, place, false),
-        place,
-        half - first,
-        true,
-        out,
-        at,
-    );
-    out[next] = extend(lead.zero, place, true);
-    out[next + 1] = extend(lead.one, place, false);
-    end_rows(
-        extend(lead.one, place, true),
-        place,
-        last + 1,
-        false,
-        out,
-        next + 2,
-    )
+    let place = rest.places;
+    let (from_first, to_last) = (rest.from_first(), rest.to_last());
+    let first = extend(lead.zero, place, false);
+    let second = extend(lead.zero, place, true);
+    let third = extend(lead.one, place, false);
+    let fourth = extend(lead.one, place, true);
+    from_first.write_rows(first, rows);
+    rows.push(second);
+    rows.push(third);
+    to_last.write_rows(fourth, rows);
 }

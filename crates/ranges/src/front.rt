@@ -2,6 +2,7 @@
 ghost use Rattle.std.specs.Prelude.{◌≡◌, ◌+◌, ◌-◌, ◌%◌, ◌^◌, ◌<◌, ◌≤◌};
 ghost use Rattle.ranges.specs.Building.{Extended, Free};
 
+use super::stretch::Stretch;
 use rows::row_words::RowWords;
 
 // The front extended by a digit, in the place of a dash.
@@ -23,18 +24,16 @@ pub(super) fn extend(front: RowWords, place: u32, digit: bool) -> RowWords
     }
 }
 
-// The row with the digits of a number in the place of the dashes from one place up to another.
-pub(super) fn with_digits(front: RowWords, number: u64, from: u32, to: u32) -> RowWords
-    requires order { from ≤ to }
-    requires to_within { to ≤ 32 }
-    requires number_within { number < 2 ^ to }
-    requires free { Free to front }
-    ensures value { result.value ≡ front.value + (number - number % 2 ^ from) }
-    ensures care { result.care ≡ front.care + (2 ^ to - 2 ^ from) }
-    ensures free { Free from result }
+// The front with the digits of the first number, in the place of the dashes before its last `rest` places.
+pub(super) fn with_digits(front: RowWords, ends: Stretch, rest: u32) -> RowWords
+    requires fewer { rest ≤ ends.places }
+    requires free { Free ends.places front }
+    ensures value { result.value ≡ front.value + (ends.first - ends.first % 2 ^ rest) }
+    ensures care { result.care ≡ front.care + (2 ^ ends.places - 2 ^ rest) }
+    ensures free { Free rest result }
 {
-    let step = 1u64 << from;
-    let value = front.value + (number - number % step) as u32;
-    let care = front.care + ((1u64 << to) - step) as u32;
+    let step = 1u64 << rest;
+    let value = front.value + (ends.first - ends.first % step) as u32;
+    let care = front.care + ((1u64 << ends.places) - step) as u32;
     RowWords { value, care }
 }

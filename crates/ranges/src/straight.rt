@@ -1,57 +1,34 @@
 // The rows of a straight range.
-ghost use Rattle.std.specs.Prelude.{◌≡◌, ◌+◌, ◌*◌, ◌/◌, ◌^◌, ◌<◌, ◌≤◌, map, length, bit_xor};
-ghost use Rattle.covers.specs.Rules.{straight_rows};
-ghost use Rattle.ranges.specs.Building.{behind_front, Free};
-ghost use Rattle.rows.specs.Memory.{written};
+ghost use Rattle.std.specs.Prelude.{◌≡◌, ◌+◌, ◌*◌, ◌/◌, ◌^◌, ◌≤◌, bit_xor};
+ghost use Rattle.arrayvec.specs.ArrayVec.{Extends};
+ghost use Rattle.ranges.specs.Building.{HasRoom, Free, straight_words};
 
 use super::across::rows_across;
 use super::front::with_digits;
 use super::lead::Lead;
+use super::lists::RowList;
+use super::stretch::Stretch;
 use rows::row_words::RowWords;
 
-// Writes the rows of first to last, of so many places, and answers the index after them.
+// Adds the rows of first to last.
 // The digits that both ends share go before each row of the shorter range that remains.
-pub(super) fn rows_of_straight(
-    front: RowWords,
-    places: u32,
-    first: u64,
-    last: u64,
-    out: &mut [RowWords],
-    at: usize,
-) -> usize
-    requires places_within { places ≤ 32 }
-    requires ordered { first ≤ last }
-    requires last_within { last < 2 ^ places }
-    requires free { Free places front }
-    requires room { at + length (straight_rows places first last) ≤ length out.old }
-    ensures rows { out.new ≡ written out.old at (map (behind_front front) (straight_rows places first last)) }
-    ensures next { result ≡ at + length (straight_rows places first last) }
+pub(super) fn rows_of_straight(front: RowWords, ends: Stretch, rows: &mut RowList)
+    requires ordered { ends.first ≤ ends.last }
+    requires free { Free ends.places front }
+    requires room { HasRoom rows.old (straight_words front ends) }
+    ensures rows { Extends rows.old (straight_words front ends) rows.new }
 {
-    let rest = places_apart(first, last);
-    if rest < places {
-        let step = 1u64 << rest;
-        return rows_of_straight(
-            with_digits(front, first, rest, places),
-            rest,
-            first % step,
-            last % step,
-            out,
-            at,
-        );
+    let apart = places_apart(ends.first, ends.last);
+    if apart < ends.places {
+        let shared = with_digits(front, ends, apart);
+        return rows_of_straight(shared, ends.last_places(apart), rows);
     }
-    if places == 0 {
-        out[at] = front;
-        return at + 1;
+    if ends.places == 0 {
+        rows.push(front);
+        return;
     }
-    let place = places - 1;
-    rows_across(
-        Lead::behind(front, place, false),
-        place,
-        first,
-        last - (1u64 << place),
-        out,
-        at,
-    )
+    let rest = ends.behind_first_digits();
+    rows_across(Lead::behind(front, rest.places, false), rest, rows);
 }
 
 // The places that remain behind the digits that both numbers begin with.

@@ -1,16 +1,11 @@
 // A number with one digit turned, and all such numbers of some places.
-ghost use Rattle.std.specs.Prelude.{◌≡◌, ◌+◌, ◌^◌, ◌<◌, ◌≤◌, length};
-ghost use Rattle.covers.specs.Digits.{digit};
+ghost use Rattle.std.specs.Prelude.{◌≡◌, ◌^◌, ◌<◌, ◌≤◌};
+ghost use Rattle.arrayvec.specs.ArrayVec.{Extends};
+ghost use Rattle.ranges.specs.Building.{HasRoom};
 ghost use Rattle.covers.specs.WitnessNumbers.{turned, each_turned};
-ghost use Rattle.rows.specs.Memory.{written};
 
-// Whether the number has a 1 at the place.
-pub(super) fn has_one(number: u64, place: u32) -> bool
-    requires place_within { place < 64 }
-    ensures value { result ≡ digit place number }
-{
-    (number >> place) & 1 == 1
-}
+use super::lists::NumberList;
+use rows::digit::has_one;
 
 // The number with the other digit at the place.
 pub(super) fn with_digit_turned(number: u64, place: u32) -> u64
@@ -26,26 +21,16 @@ pub(super) fn with_digit_turned(number: u64, place: u32) -> u64
     }
 }
 
-// Writes the number turned at each of the last places where it has a 1, or has none, and answers the index after them.
-pub(super) fn write_each_turned(
-    number: u64,
-    places: u32,
-    one: bool,
-    out: &mut [u64],
-    at: usize,
-) -> usize
+// Adds the number turned at each of the last places where it has a 1, or has none.
+pub(super) fn write_each_turned(number: u64, places: u32, one: bool, numbers: &mut NumberList)
     requires places_within { places ≤ 32 }
     requires number_within { number < 2 ^ 32 }
-    requires room { at + length (each_turned one places number) ≤ length out.old }
-    ensures numbers { out.new ≡ written out.old at (each_turned one places number) }
-    ensures next { result ≡ at + length (each_turned one places number) }
+    requires room { HasRoom numbers.old (each_turned one places number) }
+    ensures numbers { Extends numbers.old (each_turned one places number) numbers.new }
 {
-    let mut next = at;
     for place in (0..places).rev() {
         if has_one(number, place) == one {
-            out[next] = with_digit_turned(number, place);
-            next += 1;
+            numbers.push(with_digit_turned(number, place));
         }
     }
-    next
 }

@@ -8,6 +8,7 @@ mod witnesses;
 mod tests {
     use covers::symbol::Symbol;
     use ranges::range::rows_of_range;
+    use rows::range::Range;
     use rows::refusal::Refusal;
     use rows::row::Row;
     use rows::row_words::RowWords;
@@ -18,11 +19,11 @@ mod tests {
 
     #[test]
     fn widths_outside_1_to_32(rt: HostRuntime) -> Result<(), Fail> {
-        assert_eq!(rt; Width::new(0), Err(Refusal::WidthOutOfRange));
-        assert_eq!(rt; Width::new(33), Err(Refusal::WidthOutOfRange));
-        assert_eq!(rt; Width::new(u64::MAX), Err(Refusal::WidthOutOfRange));
-        assert_eq!(rt; Width::new(1)?.limit(), 2);
-        assert_eq!(rt; Width::new(32)?.limit(), 4_294_967_296);
+        assert_eq!(rt; Width::try_from(0), Err(Refusal::WidthOutOfRange));
+        assert_eq!(rt; Width::try_from(33), Err(Refusal::WidthOutOfRange));
+        assert_eq!(rt; Width::try_from(u64::MAX), Err(Refusal::WidthOutOfRange));
+        assert_eq!(rt; Width::try_from(1)?.limit(), 2);
+        assert_eq!(rt; Width::try_from(32)?.limit(), 4_294_967_296);
         Ok(())
     }
 
@@ -35,7 +36,7 @@ mod tests {
         assert_eq!(rt; row.symbol_at(1), Symbol::Dash);
         assert_eq!(rt; row.symbol_at(40), Symbol::Dash);
         assert_eq!(rt;
-            Row::read(RowWords { value: 2, care: 6 }).symbol_at(2),
+            Row::from(RowWords { value: 2, care: 6 }).symbol_at(2),
             Symbol::Zero
         );
         assert!(rt; row.takes(0b111) && row.takes(0b101) && !row.takes(0b011));
@@ -43,8 +44,12 @@ mod tests {
 
     #[test]
     fn memory_of_the_right_length(rt: HostRuntime) -> Result<(), Fail> {
+        let width = Width::try_from(3)?;
         let mut memory = [OLD; 4];
-        assert_eq!(rt; rows_of_range(Width::new(3)?, 1, 6, &mut memory), Ok(3));
+        assert_eq!(rt;
+            rows_of_range(width, Range { first: 1, last: 6 }, &mut memory),
+            Ok(3)
+        );
         assert_eq!(rt;
             memory[0],
             RowWords {
@@ -68,7 +73,7 @@ mod tests {
         );
         assert_eq!(rt; memory[3], OLD);
         assert_eq!(rt;
-            rows_of_range(Width::new(3)?, 1, 6, &mut memory[0..3]),
+            rows_of_range(width, Range { first: 1, last: 6 }, &mut memory[0..3]),
             Ok(3)
         );
         Ok(())
@@ -76,25 +81,26 @@ mod tests {
 
     #[test]
     fn refusals_leave_memory(rt: HostRuntime) -> Result<(), Fail> {
+        let width = Width::try_from(3)?;
         let mut memory = [OLD; 2];
         assert_eq!(rt;
-            rows_of_range(Width::new(3)?, 1, 6, &mut memory),
+            rows_of_range(width, Range { first: 1, last: 6 }, &mut memory),
             Err(Refusal::MemoryTooShort)
         );
         assert_eq!(rt;
-            rows_of_range(Width::new(3)?, 1, 8, &mut memory),
+            rows_of_range(width, Range { first: 1, last: 8 }, &mut memory),
             Err(Refusal::NumberOutsideWidth)
         );
         assert_eq!(rt;
-            rows_of_range(Width::new(3)?, 8, 1, &mut memory),
+            rows_of_range(width, Range { first: 8, last: 1 }, &mut memory),
             Err(Refusal::NumberOutsideWidth)
         );
         assert_eq!(rt;
-            rows_of_range(Width::new(3)?, 8, 1, &mut memory[0..0]),
+            rows_of_range(width, Range { first: 8, last: 1 }, &mut memory[0..0]),
             Err(Refusal::NumberOutsideWidth)
         );
         assert_eq!(rt;
-            rows_of_range(Width::new(3)?, 0, 7, &mut memory[0..0]),
+            rows_of_range(width, Range { first: 0, last: 7 }, &mut memory[0..0]),
             Err(Refusal::MemoryTooShort)
         );
         assert_eq!(rt; memory[0], OLD);

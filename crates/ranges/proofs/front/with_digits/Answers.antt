@@ -16,17 +16,17 @@ aligned n f t le h =
 
 pub overflow_sub-care : goal.overflow_sub-care
 overflow_sub-care c =
-    let a = one_shl c.args.from 64 (omega arith) in
-    let b = one_shl c.args.to 64 (omega arith) in
-    let m = pow_mono {i = c.args.from} {j = c.args.to} c.requires.order in
+    let a = one_shl c.args.rest 64 (omega arith) in
+    let b = one_shl c.args.ends.places 64 (omega arith) in
+    let m = pow_mono {i = c.args.rest} {j = c.args.ends.places} c.requires.fewer in
     omega arith
 
 pub returns : goal.returns
 returns c =
-    let a : (1 * 2 ^ c.args.from) % 18446744073709551616 ≡ 2 ^ c.args.from = one_shl c.args.from 64 (omega arith) in
-    let b : (1 * 2 ^ c.args.to) % 18446744073709551616 ≡ 2 ^ c.args.to = one_shl c.args.to 64 (omega arith) in
-    let m = pow_mono {i = c.args.from} {j = c.args.to} c.requires.order in
-    let e = ap (λ (k : ℕ). c.args.number % k) a in
-    let room = aligned c.args.number c.args.from c.args.to c.requires.order c.requires.number_within in
+    let a : (1 * 2 ^ c.args.rest) % 18446744073709551616 ≡ 2 ^ c.args.rest = one_shl c.args.rest 64 (omega arith) in
+    let b : (1 * 2 ^ c.args.ends.places) % 18446744073709551616 ≡ 2 ^ c.args.ends.places = one_shl c.args.ends.places 64 (omega arith) in
+    let m = pow_mono {i = c.args.rest} {j = c.args.ends.places} c.requires.fewer in
+    let e = ap (λ (k : ℕ). c.args.ends.first % k) a in
+    let room = aligned c.args.ends.first c.args.rest c.args.ends.places c.requires.fewer c.args.ends.first_within in
     let f = c.requires.free in
     record { value = omega arith; care = omega arith; free = (omega arith, omega arith) }

@@ -1,139 +1,87 @@
-use Rattle.std.proofs.Common.{◌≡◌, ℕ, zero, suc, ◌+◌, ◌-◌, ◌*◌, ◌%◌, ◌^◌, ◌<◌, ◌≤◌, sym, ap, ◌∙◌, subst, arith, length-set, rules}
-use Rattle.std.proofs.lemmas.Nat.{one_shl}
-use Rattle.rows.specs.declared.row_words.RowWords.{RowWords}
-use Rattle.ranges.specs.Building.{Free}
-use Rattle.rows.specs.Memory.{written}
-use Rattle.ranges.proofs.Fronts.{free_place, free_after}
-use Rattle.rows.proofs.Writing.{written_first}
-use Rattle.ranges.proofs.RunLists.{round_low_at, round_high_at, round_across_at, round_across_length, round_low_length, round_high_length}
+use Rattle.std.proofs.Common.{true, false, [], ◌∷◌, ◌++◌, length, sym, ap, ◌∙◌, arith, rules}
+use Rattle.ranges.specs.Building.{round_words}
+use Rattle.ranges.proofs.Adding.{followed}
+use Rattle.ranges.proofs.Fronts.{free_digit, free_extended}
+use Rattle.ranges.proofs.Stretches.{first_one, first_zero, last_one, last_low, free_behind}
+use Rattle.ranges.proofs.RunLists.{round_low_at, round_high_at, round_across_at}
 use Rattle.ranges.proofs.round.+rows_of_round.Goals as goal
 
--- what is known of a run that goes round: it has a first digit
-record Known (p : ℕ) : Type 0 where
-  some : 0 < p
-  half : (1 * 2 ^ (p - 1)) % 18446744073709551616 ≡ 2 ^ (p - 1)
-  double : 2 ^ p ≡ 2 ^ (p - 1) + 2 ^ (p - 1)
+-- both ends begin with 0
+pub extend-inner-requires-in-false-default : goal.extend-inner-requires-in-false-default
+extend-inner-requires-in-false-default t c =
+    let s = c.behind_first_digits-rest.ensures.split in
+    let f = free_digit c.behind_first_digits-rest.result.places c.args.front (free_behind s _ c.requires.free) in
+    record { place_within = let p = s.places in omega arith; value_free = f.0; care_free = f.1 }
 
-some_places : (p f l : ℕ) → l < f → f < 2 ^ p → 0 < p
-some_places zero f l o h = omega arith
-some_places (suc p) f l o h = omega arith
+pub extend-requires-in-false-default : goal.extend-requires-in-false-default
+extend-requires-in-false-default t c =
+    let s = c.behind_first_digits-rest.ensures.split in
+    let f = free_digit c.behind_first_digits-rest.result.places c.args.front (free_behind s _ c.requires.free) in
+    record { place_within = let p = s.places in omega arith; value_free = f.0; care_free = f.1 }
 
-known : (p f l : ℕ) → p ≤ 32 → l < f → f < 2 ^ p → Known p
-known p f l hp o h =
-    let s = some_places p f l o h in
-    let e : suc (p - 1) ≡ p = omega arith in
-    let d = ap (λ (k : ℕ). 2 ^ k) e in
-    record { some = s; half = one_shl (p - 1) 64 (omega arith); double = omega arith }
+pub push-requires-in-false-default : goal.push-requires-in-false-default
+push-requires-in-false-default t c =
+    let all = round_low_at c.args.front c.args.ends c.behind_first_digits-rest.result c.behind_first_digits-rest.ensures.split c.extend-in-false-default.result c.extend-inner-in-false-default.result c.requires.round (sym c.in-false-default.ensures.value) c.extend-in-false-default.ensures.extended c.extend-inner-in-false-default.ensures.extended in
+    let k = ap length all in
+    let room = c.requires.room in
+    omega arith
 
-free_at : (p : ℕ) (front : RowWords) → 0 < p → Free p front → Free (suc (p - 1)) front
-free_at p front h f = let e : suc (p - 1) ≡ p = omega arith in subst (λ k. Free k front) (sym e) f
+pub rows_of_round-requires-in-false-default : goal.rows_of_round-requires-in-false-default
+rows_of_round-requires-in-false-default t c =
+    let all = round_low_at c.args.front c.args.ends c.behind_first_digits-rest.result c.behind_first_digits-rest.ensures.split c.extend-in-false-default.result c.extend-inner-in-false-default.result c.requires.round (sym c.in-false-default.ensures.value) c.extend-in-false-default.ensures.extended c.extend-inner-in-false-default.ensures.extended in
+    let k = ap length all in
+    let s = c.behind_first_digits-rest.ensures.split in
+    let p = s.places in
+    let room = c.requires.room in
+    let more = c.push-in-false-default.ensures.len in
+    let o = c.requires.round in
+    let f = first_zero s (sym c.in-false-default.ensures.value) in
+    let h = c.behind_first_digits-rest.result.first_within in
+    let l = last_low s (omega arith) in
+    (search rules, (omega arith, (free_extended c.args.front c.extend-inner-in-false-default.result c.behind_first_digits-rest.result.places false c.extend-inner-in-false-default.ensures.extended (free_behind s _ c.requires.free), omega arith)))
 
-pub extend-requires : goal.extend-requires
-extend-requires t c =
-    let K = known c.args.places c.args.first c.args.last c.requires.places_within c.requires.round c.requires.first_within in
-    let some = K.some in
-    let f = free_place c.args.places c.args.front K.some c.requires.free in
-    record { place_within = omega arith; value_free = f.0; care_free = f.1 }
+pub returns-in-false-default : goal.returns-in-false-default
+returns-in-false-default t c =
+    let all = round_low_at c.args.front c.args.ends c.behind_first_digits-rest.result c.behind_first_digits-rest.ensures.split c.extend-in-false-default.result c.extend-inner-in-false-default.result c.requires.round (sym c.in-false-default.ensures.value) c.extend-in-false-default.ensures.extended c.extend-inner-in-false-default.ensures.extended in
+    record {
+      rows = followed c.args.rows.now.items (c.extend-in-false-default.result ∷ []) (round_words c.extend-inner-in-false-default.result c.behind_first_digits-rest.result) c.push-in-false-default.ensures.items c.rows_of_round-in-false-default.ensures.rows all;
+    }
 
-pub bounds-out-at : goal.bounds-out-at
-bounds-out-at t c =
-    let K = known c.args.places c.args.first c.args.last c.requires.places_within c.requires.round c.requires.first_within in
-    let k = round_low_length c.args.places c.args.first c.args.last _ K.some K.half c.requires.round c.if-first-half.true in
+-- both ends begin with 1
+pub push-requires : goal.push-requires
+push-requires t c =
+    let all = round_high_at c.args.front c.args.ends c.behind_first_digits-rest.result c.behind_first_digits-rest.ensures.split c.extend.result c.extend-inner.result c.requires.round (sym c.in-true-true.ensures.value) (sym c.in-true-true.ensures'.value) c.extend.ensures.extended c.extend-inner.ensures.extended in
+    let k = ap length all in
     let room = c.requires.room in
     omega arith
 
 pub rows_of_round-requires : goal.rows_of_round-requires
 rows_of_round-requires t c =
-    let K = known c.args.places c.args.first c.args.last c.requires.places_within c.requires.round c.requires.first_within in
-    let k = round_low_length c.args.places c.args.first c.args.last _ K.some K.half c.requires.round c.if-first-half.true in
-    let h = K.half in
-    let d = K.double in
-    let some = K.some in
+    let all = round_high_at c.args.front c.args.ends c.behind_first_digits-rest.result c.behind_first_digits-rest.ensures.split c.extend.result c.extend-inner.result c.requires.round (sym c.in-true-true.ensures.value) (sym c.in-true-true.ensures'.value) c.extend.ensures.extended c.extend-inner.ensures.extended in
+    let k = ap length all in
+    let s = c.behind_first_digits-rest.ensures.split in
+    let p = s.places in
     let room = c.requires.room in
+    let more = c.push.ensures.len in
     let o = c.requires.round in
-    let hf = c.requires.first_within in
-    let la = c.if-first-half.true in
-    (search rules, (omega arith, (omega arith, (omega arith, (free_after c.args.front c.extend-then-first-half.result c.args.places _ c.extend-then-first-half.ensures.extended K.some c.requires.free, simp length-set (omega arith))))))
+    let f = first_one s (sym c.in-true-true.ensures.value) in
+    let l = last_one s (sym c.in-true-true.ensures'.value) in
+    (search rules, (omega arith, (free_extended c.args.front c.extend-inner.result c.behind_first_digits-rest.result.places true c.extend-inner.ensures.extended (free_behind s _ c.requires.free), omega arith)))
 
-pub returns-then-first-half : goal.returns-then-first-half
-returns-then-first-half t c =
-    let K = known c.args.places c.args.first c.args.last c.requires.places_within c.requires.round c.requires.first_within in
-    let k = round_low_length c.args.places c.args.first c.args.last _ K.some K.half c.requires.round c.if-first-half.true in
-    let all = round_low_at c.args.places c.args.first c.args.last _ K.some K.half c.args.front c.extend.result c.extend-then-first-half.result c.requires.round c.if-first-half.true c.extend.ensures.extended c.extend-then-first-half.ensures.extended in
-    let room = c.requires.room in
-    let after = c.rows_of_round.ensures.next in
-    record {
-      rows =
-          c.rows_of_round.ensures.rows ∙
-          sym (written_first c.args.out.now c.args.at c.extend.result _ (omega arith)) ∙
-          ap (written c.args.out.now c.args.at) (sym all);
-      next = omega arith;
-    }
+pub returns-in-true-true : goal.returns-in-true-true
+returns-in-true-true t c =
+    let all = round_high_at c.args.front c.args.ends c.behind_first_digits-rest.result c.behind_first_digits-rest.ensures.split c.extend.result c.extend-inner.result c.requires.round (sym c.in-true-true.ensures.value) (sym c.in-true-true.ensures'.value) c.extend.ensures.extended c.extend-inner.ensures.extended in
+    record { rows = followed c.args.rows.now.items (c.extend.result ∷ []) (round_words c.extend-inner.result c.behind_first_digits-rest.result) c.push.ensures.items c.rows_of_round.ensures.rows all }
 
-pub extend-requires-then-last-half : goal.extend-requires-then-last-half
-extend-requires-then-last-half t c =
-    let K = known c.args.places c.args.first c.args.last c.requires.places_within c.requires.round c.requires.first_within in
-    let some = K.some in
-    let f = free_place c.args.places c.args.front K.some c.requires.free in
-    record { place_within = omega arith; value_free = f.0; care_free = f.1 }
-
-pub bounds-out-at-then-last-half : goal.bounds-out-at-then-last-half
-bounds-out-at-then-last-half t c =
-    let K = known c.args.places c.args.first c.args.last c.requires.places_within c.requires.round c.requires.first_within in
-    let k = round_high_length c.args.places c.args.first c.args.last _ K.some K.half c.requires.round c.if-last-half.true c.requires.first_within in
+-- the run goes over the middle
+pub rows_across-requires-clause-room : goal.rows_across-requires-clause-room
+rows_across-requires-clause-room t c =
+    let all = round_across_at c.args.front c.args.ends c.behind_first_digits-rest.result c.behind_first_digits-rest.ensures.split c.behind.result (sym c.in-true-false.ensures.value) (sym c.in-true-false.ensures'.value) c.behind.ensures.begun in
+    let k = ap length all in
     let room = c.requires.room in
     omega arith
 
-pub rows_of_round-requires-then-last-half : goal.rows_of_round-requires-then-last-half
-rows_of_round-requires-then-last-half t c =
-    let K = known c.args.places c.args.first c.args.last c.requires.places_within c.requires.round c.requires.first_within in
-    let k = round_high_length c.args.places c.args.first c.args.last _ K.some K.half c.requires.round c.if-last-half.true c.requires.first_within in
-    let h = K.half in
-    let d = K.double in
-    let some = K.some in
-    let room = c.requires.room in
-    let o = c.requires.round in
-    let hf = c.requires.first_within in
-    let lb = c.if-last-half.true in
-    (search rules, (omega arith, (omega arith, (omega arith, (free_after c.args.front c.extend-then-last-half-2.result c.args.places _ c.extend-then-last-half-2.ensures.extended K.some c.requires.free, simp length-set (omega arith))))))
-
-pub returns-then-last-half : goal.returns-then-last-half
-returns-then-last-half t c =
-    let K = known c.args.places c.args.first c.args.last c.requires.places_within c.requires.round c.requires.first_within in
-    let k = round_high_length c.args.places c.args.first c.args.last _ K.some K.half c.requires.round c.if-last-half.true c.requires.first_within in
-    let all = round_high_at c.args.places c.args.first c.args.last _ K.some K.half c.args.front c.extend-then-last-half.result c.extend-then-last-half-2.result c.requires.round c.if-last-half.true c.requires.first_within c.extend-then-last-half.ensures.extended c.extend-then-last-half-2.ensures.extended in
-    let room = c.requires.room in
-    let after = c.rows_of_round-then-last-half.ensures.next in
-    record {
-      rows =
-          c.rows_of_round-then-last-half.ensures.rows ∙
-          sym (written_first c.args.out.now c.args.at c.extend-then-last-half.result _ (omega arith)) ∙
-          ap (written c.args.out.now c.args.at) (sym all);
-      next = omega arith;
-    }
-
-pub behind-requires : goal.behind-requires
-behind-requires t c =
-    let K = known c.args.places c.args.first c.args.last c.requires.places_within c.requires.round c.requires.first_within in
-    let some = K.some in
-    record { place_within = omega arith; free = free_at c.args.places c.args.front K.some c.requires.free }
-
-pub rows_across-requires : goal.rows_across-requires
-rows_across-requires t c =
-    let K = known c.args.places c.args.first c.args.last c.requires.places_within c.requires.round c.requires.first_within in
-    let k = round_across_length c.args.places c.args.first c.args.last _ K.some K.half c.if-first-half.false c.requires.first_within c.if-last-half.false in
-    let h = K.half in
-    let d = K.double in
-    let some = K.some in
-    let room = c.requires.room in
-    let hf = c.requires.first_within in
-    let lb = c.if-last-half.false in
-    record { places_within = omega arith; first_within = omega arith; last_within = omega arith; free = c.behind.ensures.free; room = omega arith }
-
-pub returns : goal.returns
-returns t c =
-    let K = known c.args.places c.args.first c.args.last c.requires.places_within c.requires.round c.requires.first_within in
-    let k = round_across_length c.args.places c.args.first c.args.last _ K.some K.half c.if-first-half.false c.requires.first_within c.if-last-half.false in
-    let all = round_across_at c.args.places c.args.first c.args.last _ K.some K.half c.args.front c.behind.result c.if-first-half.false c.requires.first_within c.if-last-half.false c.behind.ensures.begun in
-    let after = c.rows_across.ensures.next in
-    record { rows = c.rows_across.ensures.rows ∙ ap (written c.args.out.now c.args.at) (sym all); next = omega arith }
+pub returns-in-true-false : goal.returns-in-true-false
+returns-in-true-false t c =
+    let all = round_across_at c.args.front c.args.ends c.behind_first_digits-rest.result c.behind_first_digits-rest.ensures.split c.behind.result (sym c.in-true-false.ensures.value) (sym c.in-true-false.ensures'.value) c.behind.ensures.begun in
+    record { rows = c.rows_across.ensures.rows ∙ ap (λ l. c.args.rows.now.items ++ l) (sym all) }

@@ -1,10 +1,11 @@
-use Rattle.std.proofs.Common.{◌≡◌, ◌+◌, length}
+use Rattle.std.proofs.Common.{◌≡◌, ◌++◌}
 use Rattle.covers.specs.WitnessNumbers.{each_turned}
-use Rattle.rows.specs.Memory.{written}
+use Rattle.ranges.specs.Building.{HasRoom}
 use Rattle.ranges.proofs.turned.write_each_turned.Given as goal
 
--- writing what is left gives what writing all gives
+-- what is there and what is left are the whole list
 abbrev pub invariant-loop-place : goal.invariant-loop-place
-invariant-loop-place l =
-    (written l.out l.next (each_turned l.one l.place l.number) ≡ written l.initial.out l.initial.at (each_turned l.one l.places l.number)) ×
-    (l.next + length (each_turned l.one l.place l.number) ≡ l.initial.at + length (each_turned l.one l.places l.number))
+invariant-loop-place l = record {
+  list : l.numbers.items ++ each_turned l.one l.place l.number ≡ l.initial.numbers.items ++ each_turned l.one l.places l.number;
+  room : HasRoom l.numbers (each_turned l.one l.place l.number);
+}

@@ -1,85 +1,55 @@
-use Rattle.std.proofs.Common.{◌≡◌, ℕ, ◌+◌, ◌-◌, ◌^◌, ◌<◌, ◌≤◌, List, ◌++◌, length, take, drop, Ok, Err, sym, refl, ap, ◌∙◌, subst, ap₂, arith, rules}
-use native.Mathlib.Nat.{sub-zero}
+use Rattle.std.proofs.Common.{◌≡◌, ℕ, ◌^◌, ◌<◌, true, cond, List, ◌++◌, length, take, drop, Ok, Err, refl, sym, ap, ◌∙◌, subst, arith}
+use Rattle.std.specs.Prelude.{nat_le}
+use Rattle.std.specs.List.{AllByRecursion}
 use Rattle.std.proofs.lemmas.List.{take_at}
-use Rattle.std.proofs.lemmas.Bool.{lt-ltb, lt-leb, both_ways}
-use Rattle.covers.specs.Rivals.{in_range, Witness}
+use Rattle.covers.specs.Rivals.{in_range, Pairs, Parted, Witness}
 use Rattle.covers.specs.Rules.{rows_of_range}
 use Rattle.covers.specs.WitnessNumbers.{numbers_of_range}
 use Rattle.covers.proofs.RangeLists.{range_few, most_few}
 use Rattle.covers.proofs.WitnessCounts.{range_counted}
 use Rattle.covers.proofs.WitnessSound.{numbers_witness}
-use Rattle.rows.specs.declared.refusal.Refusal.TheVariants.{MemoryTooShort}
-use Rattle.rows.specs.Memory.{written}
-use Rattle.ranges.specs.RangeRows.{range_answer}
+use Rattle.rows.specs.declared.refusal.Refusal.TheVariants.{NumberOutsideWidth, MemoryTooShort}
 use Rattle.rows.specs.Widths.{places_of}
-use Rattle.ranges.proofs.RunLists.{range_granted}
 use Rattle.rows.proofs.Widths.{places_some, places_most}
+use Rattle.ranges.proofs.Handing.{handed, handed_answer}
+use Rattle.ranges.proofs.RunLists.{ends_within}
 use Rattle.ranges.proofs.witness.witness_of_range.Goals as goal
 
-pub slice_bounds-copy_to_start-end : goal.slice_bounds-copy_to_start-end
-slice_bounds-copy_to_start-end c =
-    let w = c.args.width in
-    let lim = c.limit-limit.ensures.value in
-    let x = range_few (places_of w) c.args.first c.args.last (places_some w) in
-    let y = most_few (places_of w) (places_most w) in
-    let count = range_counted (places_of w) c.args.first c.args.last (omega arith) (omega arith) in
-    let k = c.write_numbers-count.ensures.count in
-    let few : c.write_numbers-count.result ≤ 62 = omega arith in
-    search rules
-
--- memory too short for the numbers
-module _ (n f l room : ℕ) (hf : f < 2 ^ n) (hl : l < 2 ^ n) where
-  too_short : room < length (rows_of_range n f l) → range_answer n f l room ≡ Err MemoryTooShort
-  too_short h = rw (lt-ltb f (2 ^ n) hf, lt-ltb l (2 ^ n) hl, lt-leb (length (rows_of_range n f l)) room h)
-
-pub returns-then-count-memory : goal.returns-then-count-memory
-returns-then-count-memory c =
+pub write_numbers-requires : goal.write_numbers-requires
+write_numbers-requires c =
     let n = places_of c.args.width in
-    let f = c.args.first in
-    let l = c.args.last in
-    let lim = c.limit-limit.ensures.value in
-    let hf : f < 2 ^ n = omega arith in
-    let hl : l < 2 ^ n = omega arith in
-    let e = c.write_numbers-count.ensures.count in
-    let count = range_counted n f l hf hl in
-    record {
-      answer = sym (too_short n f l (length c.args.memory.now) hf hl (omega arith));
-      numbers_left_free = tt;
-      untouched_when_refused = λ z. refl;
-      as_many = tt;
-      members = tt;
-      parted = tt;
-      witness = tt;
-    }
-
--- the scratch from its start
-start : (numbers scratch : List ℕ) (k : ℕ) → k ≡ length numbers → take (k - 0) (written scratch 0 numbers) ≡ numbers
-start numbers scratch k e = ap (λ j. take j (numbers ++ drop (0 + length numbers) scratch)) (sub-zero k) ∙ take_at numbers (drop (0 + length numbers) scratch) k (sym e)
+    let ends = ends_within n c.args.range.first c.args.range.last c.is_within.result c.is_within.ensures.value c.if-not-is_within.false in
+    let few = range_few n c.args.range.first c.args.range.last (places_some c.args.width) in
+    let most = most_few n (places_most c.args.width) in
+    let count = range_counted n c.args.range.first c.args.range.last ends.0 ends.1 in
+    let none = ap length c.new-numbers.ensures in
+    record { first_within = ends.0; last_within = ends.1; room = omega arith }
 
 pub returns : goal.returns
 returns c =
-    let w = c.args.width in
-    let n = places_of w in
-    let f = c.args.first in
-    let l = c.args.last in
-    let lim = c.limit-limit.ensures.value in
-    let hf : f < 2 ^ n = omega arith in
-    let hl : l < 2 ^ n = omega arith in
-    let k = c.write_numbers-count.result in
-    let e = c.write_numbers-count.ensures.count in
-    let count = range_counted n f l hf hl in
+    let n = places_of c.args.width in
+    let f = c.args.range.first in
+    let l = c.args.range.last in
+    let ends = ends_within n f l c.is_within.result c.is_within.ensures.value c.if-not-is_within.false in
     let numbers = numbers_of_range n f l in
-    let part = ap (take (k - 0)) c.write_numbers-count.ensures.numbers ∙ start numbers _ k e in
-    let all : c.copy_to_start.new.memory ≡ numbers ++ drop k c.args.memory.now =
-    c.copy_to_start.ensures.copied ∙ ap₂ (λ (x : List ℕ) (j : ℕ). x ++ drop j c.args.memory.now) part (ap length part ∙ sym e) in
-    let back : take k c.copy_to_start.new.memory ≡ numbers = ap (take k) all ∙ take_at numbers (drop k c.args.memory.now) k (sym e) in
-    let W = subst (Witness n (in_range f l)) (sym back) (numbers_witness n f l hf hl) in
+    let rows = rows_of_range n f l in
+    let count = range_counted n f l ends.0 ends.1 in
+    let memory = c.args.memory.now in
+    let new = c.hand_over.new.memory in
+    let all : c.deref.result.now ≡ numbers = c.deref.ensures.0 ∙ c.write_numbers.ensures.numbers ∙ ap (λ x. x ++ numbers) c.new-numbers.ensures in
+    let over = c.hand_over.ensures in
+    let granted = handed c.deref.result.now memory new numbers c.hand_over.result over.answer over.copied all in
+    let found : new ≡ numbers ++ drop (length numbers) memory → Witness n (in_range f l) (take (length numbers) new) = λ at.
+    subst (Witness n (in_range f l)) (sym (ap (take (length numbers)) at ∙ take_at numbers (drop (length numbers) memory) (length numbers) refl)) (numbers_witness n f l ends.0 ends.1) in
     record {
-      answer = ap Ok (e ∙ count) ∙ sym (range_granted n f l (length c.args.memory.now) hf hl (omega arith));
-      numbers_left_free = (numbers, sym e, all);
-      untouched_when_refused = λ z. absurd (both_ways _ refl z);
-      as_many = e ∙ count;
-      members = W.members;
-      parted = W.parted;
-      witness = W;
+      answer =
+          handed_answer c.deref.result.now memory new numbers c.hand_over.result over.answer over.copied all ∙
+          ap (λ k. cond (nat_le k (length memory)) (Ok k) (Err MemoryTooShort)) count ∙
+          ap (λ b. cond b (cond (nat_le (length rows) (length memory)) (Ok (length rows)) (Err MemoryTooShort)) (Err NumberOutsideWidth)) (sym c.if-not-is_within.false ∙ c.is_within.ensures.value);
+      numbers_left_free = granted (λ k. (xs : List ℕ) × (length xs ≡ k) × (new ≡ xs ++ drop k memory)) (λ at. (numbers, refl, at));
+      untouched_when_refused = over.untouched_when_refused;
+      as_many = granted (λ k. k ≡ length rows) (λ at. count);
+      members = granted (λ k. AllByRecursion (λ x. (x < 2 ^ n) × (in_range f l x ≡ true)) (take k new)) (λ at. (found at).members);
+      parted = granted (λ k. Pairs (Parted n (in_range f l)) (take k new)) (λ at. (found at).parted);
+      witness = granted (λ k. Witness n (in_range f l) (take k new)) found;
     }

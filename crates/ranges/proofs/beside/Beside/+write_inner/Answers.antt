@@ -1,0 +1,11 @@
+use Rattle.std.proofs.Common.{length, sym, ap, ◌∙◌, arith, rules}
+use Rattle.ranges.proofs.BesideLists.{inner_at_one}
+use Rattle.ranges.proofs.beside.Beside.+write_inner.Goals as goal
+
+pub write_inner-requires : goal.write_inner-requires
+write_inner-requires t c =
+    let k = ap length (inner_at_one c.args.places c.args.self.before c.args.self.after (sym c.is_under.ensures.value ∙ c.if-not-is_under.false)) in
+    let room = c.requires.room in
+    let more = c.push.ensures.len in
+    let small = c.requires.places_within in
+    (search rules, (omega arith, omega arith))
