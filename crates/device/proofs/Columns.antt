@@ -6,6 +6,8 @@ use Rattle.std.proofs.lemmas.Nat.{one_shl}
 use Rattle.std.proofs.lemmas.List.FromFn.{length-map-range_with_len, get_or-map-range_with_len, fill_by_all}
 use Rattle.std.proofs.lemmas.Bool.{eq-eqb, ne_eqb, eqb-true, eqb-false, lt-ltb, ltb-true, both_ways}
 use Rattle.rows.specs.declared.row.Row.{Row}
+use Rattle.rows.specs.declared.row_words.RowWords.{RowWords}
+use Rattle.rows.specs.Memory.{words_of}
 use Rattle.covers.specs.declared.symbol.Symbol.{Symbol}
 use Rattle.covers.specs.declared.symbol.Symbol.TheVariants.{Zero, One, Dash}
 use Rattle.covers.specs.Digits.{Digits, digit, digits}
@@ -73,6 +75,28 @@ unfolding column_slot
 column_takes n columns slot x =
     content_slot n (slot_symbols n columns slot) x (slot_symbols_count n columns slot) ∙ admitted_content n columns slot x
 
+-- a column more
+pub column_more : (i place x slots set count : ℕ) (columns : List Column) (tested : Bool) →
+    digit i slots ≡ (ltb i count && admitted place columns i x) → tested ≡ digit place x →
+    set ≡ cond tested (get_or columns place blank_column).ones (get_or columns place blank_column).zeros →
+    (digit i slots && digit i set) ≡ (ltb i count && admitted (place + 1) columns i x)
+column_more i place x slots set count columns tested h e s =
+    let c = get_or columns place blank_column in
+    ap₂ (λ (p q : Bool). p && q) h (ap (digit i) (s ∙ ap (λ (b : Bool). cond b c.ones c.zeros) e) ∙ through (digit place x) c.ones c.zeros) ∙
+    turned (ltb i count) (admitted place columns i x) (cond (digit place x) (digit i c.ones) (digit i c.zeros)) ∙
+    ap (λ (k : ℕ). ltb i count && admitted k columns i x) (sym (add-one place))
+  where
+    through : (b : Bool) (o z : ℕ) → digit i (cond b o z) ≡ cond b (digit i o) (digit i z)
+    through true o z = refl
+    through false o z = refl
+
+    turned : (l a d : Bool) → ((l && a) && d) ≡ (l && (d && a))
+    turned false a d = refl
+    turned true true true = refl
+    turned true true false = refl
+    turned true false true = refl
+    turned true false false = refl
+
 -- the slots by their index
 pub column_length : (n : ℕ) (columns : List Column) (count : ℕ) → length (column_slots n columns count) ≡ count
 unfolding column_slots
@@ -100,9 +124,14 @@ empty_stays m n columns slot e h = go n h
             let d = eqb-false m (suc n) t in
             ap (one_more (column_symbol (get_or columns n blank_column) slot)) (rest (omega arith)) ∙ ignored (column_symbol (get_or columns n blank_column) slot)
 
+-- in the first k columns the slot asks for what its content asks for, and every other slot for what it did
+abbrev pub Writes : List Column → List Column → ℕ → Slot → ℕ → Type 0
+Writes was is slot content k =
+    (place i : ℕ) → place < k →
+    column_symbol (get_or is place blank_column) i ≡ cond (eqb i slot) (row_symbol content place) (column_symbol (get_or was place blank_column) i)
+
 -- what writing a slot leaves, in the first n columns
-module _ (was is : List Column) (slot : ℕ) (content : Slot)
-    (written : (place i : ℕ) → place < 32 → column_symbol (get_or is place blank_column) i ≡ cond (eqb i slot) (row_symbol content place) (column_symbol (get_or was place blank_column) i)) where
+module _ (was is : List Column) (slot : ℕ) (content : Slot) (written : Writes was is slot content 32) where
   others : (n i : ℕ) → n ≤ 32 → i ≢ slot → slot_symbols n is i ≡ slot_symbols n was i
   others zero i h d = refl
   others (suc m) i h d =
@@ -194,12 +223,7 @@ blank_slots n count h =
 module _ (was columns : List Column) (at slot : ℕ) (content : Slot) (column : Column) (here : at < length columns)
     (now : (i : ℕ) → column_symbol column i ≡ cond (eqb i slot) (row_symbol content at) (column_symbol (get_or columns at blank_column) i))
     (rest : (place : ℕ) → at ≤ place → get_or columns place blank_column ≡ get_or was place blank_column) where
-  abbrev Written : List Column → ℕ → Type 0
-  Written l k =
-      (place i : ℕ) → place < k →
-      column_symbol (get_or l place blank_column) i ≡ cond (eqb i slot) (row_symbol content place) (column_symbol (get_or was place blank_column) i)
-
-  pub written_more : Written columns at → Written (set columns at column) (at + 1)
+  pub written_more : Writes was columns slot content at → Writes was (set columns at column) slot content (at + 1)
   written_more before place i h = go (eqb place at) refl
     where
       go : (t : Bool) → eqb place at ≡ t →
@@ -221,14 +245,11 @@ module _ (was columns : List Column) (at slot : ℕ) (content : Slot) (column : 
       get_or-set_other columns at place column blank_column d ∙ rest place (omega arith)
 
 -- the words of a slot in the first columns
-abbrev pub Read : List Column → ℕ → ℕ → ℕ → ℕ → Type 0
-Read columns slot place value care = (r : Symbols) × (slot_symbols place columns slot ≡ Some r) × (value ≡ value_word r) × (care ≡ care_word r)
-
-pub read_as : (columns : List Column) (slot place value care v c : ℕ) → v ≡ value → c ≡ care → Read columns slot place value care → Read columns slot place v c
-read_as columns slot place value care v c p q read = (read.0, read.1, p ∙ read.2, q ∙ read.3)
+abbrev pub Read : List Column → ℕ → ℕ → RowWords → Type 0
+Read columns slot place words = (r : Symbols) × (slot_symbols place columns slot ≡ Some r) × (words ≡ words_of r)
 
 -- one column more
-module _ (columns : List Column) (slot place value care : ℕ) (read : Read columns slot place value care) (p : place < 32) where
+module _ (columns : List Column) (slot place : ℕ) (words : RowWords) (read : Read columns slot place words) (p : place < 32) where
   long : length read.0 ≡ place
   long = subst (Counts place) read.1 (slot_symbols_count place columns slot)
 
@@ -244,24 +265,33 @@ module _ (columns : List Column) (slot place value care : ℕ) (read : Read colu
       ap₂ bit_or e (one_shl place 32 p ∙ sym (one-mul (2 ^ place))) ∙ or_shifted_r 1 place k fits ∙
       ap (λ n. n + k) (one-mul (2 ^ place) ∙ ap (λ n. 2 ^ n) (sym long))
 
-  pub read_dash : column_symbol (get_or columns place blank_column) slot ≡ Some Dash → Read columns slot (place + 1) value care
-  read_dash h = (Dash ∷ read.0, more Dash h, read.2, read.3)
+  cared : with_place words.care ≡ 2 ^ length read.0 + care_word read.0
+  cared = wider words.care (care_word read.0) (ap (λ (w : RowWords). w.care) read.2) (care_word_fits read.0)
 
-  pub read_zero : column_symbol (get_or columns place blank_column) slot ≡ Some Zero → Read columns slot (place + 1) value (with_place care)
-  read_zero h = (Zero ∷ read.0, more Zero h, read.2, wider care (care_word read.0) read.3 (care_word_fits read.0))
+  pub read_dash : column_symbol (get_or columns place blank_column) slot ≡ Some Dash → (w : RowWords) → w ≡ words → Read columns slot (place + 1) w
+  read_dash h w e = (Dash ∷ read.0, more Dash h, e ∙ read.2)
 
-  pub read_one : column_symbol (get_or columns place blank_column) slot ≡ Some One → Read columns slot (place + 1) (with_place value) (with_place care)
-  read_one h = (
+  pub read_zero : column_symbol (get_or columns place blank_column) slot ≡ Some Zero → (w : RowWords) →
+      w ≡ record { value = words.value; care = with_place words.care } → Read columns slot (place + 1) w
+  read_zero h w e = (
+    Zero ∷ read.0,
+    more Zero h,
+    e ∙ ap₂ (λ (v c : ℕ). record { value = v; care = c }) (ap (λ (w : RowWords). w.value) read.2) cared,
+  )
+
+  pub read_one : column_symbol (get_or columns place blank_column) slot ≡ Some One → (w : RowWords) →
+      w ≡ record { value = with_place words.value; care = with_place words.care } → Read columns slot (place + 1) w
+  read_one h w e = (
     One ∷ read.0,
     more One h,
-    wider value (value_word read.0) read.2 (value_word_fits read.0),
-    wider care (care_word read.0) read.3 (care_word_fits read.0),
+    e ∙ ap₂ (λ (v c : ℕ). record { value = v; care = c })
+        (wider words.value (value_word read.0) (ap (λ (w : RowWords). w.value) read.2) (value_word_fits read.0)) cared,
   )
 
 -- a slot of which every column was read, and one that admits no digit in a column
-pub read_slot : (columns : List Column) (slot n value care : ℕ) → Read columns slot n value care → Some (row_made value care) ≡ column_slot n columns slot
+pub read_slot : (columns : List Column) (slot n : ℕ) (words : RowWords) → Read columns slot n words → Some (row_made words.value words.care) ≡ column_slot n columns slot
 unfolding column_slot
-read_slot columns slot n value care read = ap₂ (λ (v c : ℕ). Some (row_made v c)) read.2 read.3 ∙ sym (ap slot_with read.1)
+read_slot columns slot n words read = ap (λ (w : RowWords). Some (row_made w.value w.care)) read.2 ∙ sym (ap slot_with read.1)
 
 pub read_none : (columns : List Column) (slot place n : ℕ) → column_symbol (get_or columns place blank_column) slot ≡ None → place < n → None ≡ column_slot n columns slot
 unfolding column_slot

@@ -5,5 +5,6 @@ pub mod Tables
 pub mod Plays
 pub mod BitSets
 pub mod Columns
+pub mod ColumnTables
 pub mod SymbolTakes
 pub mod SameAnswers

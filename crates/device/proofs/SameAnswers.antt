@@ -1,18 +1,20 @@
 -- The derived comparison of answers tells whether they are the same.
-use Rattle.std.proofs.Common.{◌≡◌, ℕ, Bool, true, false, Some, None, Decides, ◌&&◌, refl, sym, ap, ap₂, ◌∙◌, arith}
+use Rattle.std.proofs.Common.{◌≡◌, Bool, true, false, Some, None, Ok, Err, Decides, ◌&&◌, refl, sym, ap, ap₂, ◌∙◌}
 use denote.Enum.Bare.{same_true, true_same}
 use Rattle.rows.specs.contracts.refusal.Refusal.{the_type}
 use Rattle.std.proofs.lemmas.Bool.{false≢true, both_ways, eq-eqb, eqb-true}
 use Rattle.std.proofs.Math.Bool.{beq}
 use Rattle.std.proofs.Math.Dec.{eqb}
 use Rattle.std.specs.Cmp.{booleans_Decides}
+use Rattle.std.specs.Result.{result_eq}
 use Rattle.rows.specs.declared.refusal.Refusal.{Refusal}
 use Rattle.rows.specs.declared.row.Row.{Row}
 use Rattle.rows.specs.contracts.row.RowPartialEq.TheImpl as row_equality
 use Rattle.rows.specs.contracts.refusal.RefusalPartialEq.TheImpl as refusal_equality
 use Rattle.device.specs.declared.call.DeviceAnswer.{DeviceAnswer}
-use Rattle.device.specs.declared.call.DeviceAnswer.TheVariants.{Done, Holds, Says, Refused}
+use Rattle.device.specs.declared.call.DeviceAnswer.TheVariants.{Done, Holds, Says}
 use Rattle.device.specs.contracts.call.DeviceAnswerPartialEq.TheImpl as answer_equality
+use Rattle.device.specs.Replays.{Answer}
 use Rattle.device.proofs.Rows.{row_same}
 
 -- a result that equals a test decides what the test decides
@@ -40,23 +42,22 @@ apart x y r differ h = (λ t. absurd (both_ways r h t), λ e. absurd (differ e))
 carried : {X Y : Type 0} (f : X → Y) (x y : X) (r : Bool) → (f x ≡ f y → x ≡ y) → Decides r (x ≡ y) → Decides r (f x ≡ f y)
 carried f x y r back d = (λ t. ap f (d.0 t), λ e. d.1 (back e))
 
-pub answer_decides : (x y : DeviceAnswer) (r : Bool) → (r ≡ (answer_equality.ghosts).eq x y) → Decides r (x ≡ y)
-answer_decides Done Done r h = (λ _. refl, λ _. h)
-answer_decides Done (Holds b) r h = apart _ _ r (λ e. let z : ◌≡◌ {A = ℕ} 0 1 = cc in omega arith) h
-answer_decides Done (Says b) r h = apart _ _ r (λ e. let z : ◌≡◌ {A = ℕ} 0 1 = cc in omega arith) h
-answer_decides Done (Refused b) r h = apart _ _ r (λ e. let z : ◌≡◌ {A = ℕ} 0 1 = cc in omega arith) h
-answer_decides (Holds a) Done r h = apart _ _ r (λ e. let z : ◌≡◌ {A = ℕ} 0 1 = cc in omega arith) h
-answer_decides (Holds None) (Holds None) r h = (λ _. refl, λ _. h)
-answer_decides (Holds None) (Holds (Some b)) r h = apart _ _ r (λ e. let z : ◌≡◌ {A = ℕ} 0 1 = cc in omega arith) h
-answer_decides (Holds (Some a)) (Holds None) r h = apart _ _ r (λ e. let z : ◌≡◌ {A = ℕ} 0 1 = cc in omega arith) h
-answer_decides (Holds (Some a)) (Holds (Some b)) r h = carried (λ (z : Row). Holds (Some z)) a b r (λ e. cc) (row_decides a b r h)
-answer_decides (Holds a) (Says b) r h = apart _ _ r (λ e. let z : ◌≡◌ {A = ℕ} 0 1 = cc in omega arith) h
-answer_decides (Holds a) (Refused b) r h = apart _ _ r (λ e. let z : ◌≡◌ {A = ℕ} 0 1 = cc in omega arith) h
-answer_decides (Says a) Done r h = apart _ _ r (λ e. let z : ◌≡◌ {A = ℕ} 0 1 = cc in omega arith) h
-answer_decides (Says a) (Holds b) r h = apart _ _ r (λ e. let z : ◌≡◌ {A = ℕ} 0 1 = cc in omega arith) h
-answer_decides (Says a) (Says b) r h = carried Says a b r (λ e. cc) (by_test (beq a b) r h (booleans_Decides a b))
-answer_decides (Says a) (Refused b) r h = apart _ _ r (λ e. let z : ◌≡◌ {A = ℕ} 0 1 = cc in omega arith) h
-answer_decides (Refused a) Done r h = apart _ _ r (λ e. let z : ◌≡◌ {A = ℕ} 0 1 = cc in omega arith) h
-answer_decides (Refused a) (Holds b) r h = apart _ _ r (λ e. let z : ◌≡◌ {A = ℕ} 0 1 = cc in omega arith) h
-answer_decides (Refused a) (Says b) r h = apart _ _ r (λ e. let z : ◌≡◌ {A = ℕ} 0 1 = cc in omega arith) h
-answer_decides (Refused a) (Refused b) r h = carried Refused a b r (λ e. cc) (refusal_decides a b r h)
+granted_decides : (x y : DeviceAnswer) (r : Bool) → r ≡ (answer_equality.ghosts).eq x y → Decides r (x ≡ y)
+granted_decides Done Done r h = (λ _. refl, λ _. h)
+granted_decides Done (Holds b) r h = apart _ _ r (λ e. cc) h
+granted_decides Done (Says b) r h = apart _ _ r (λ e. cc) h
+granted_decides (Holds a) Done r h = apart _ _ r (λ e. cc) h
+granted_decides (Holds None) (Holds None) r h = (λ _. refl, λ _. h)
+granted_decides (Holds None) (Holds (Some b)) r h = apart _ _ r (λ e. cc) h
+granted_decides (Holds (Some a)) (Holds None) r h = apart _ _ r (λ e. cc) h
+granted_decides (Holds (Some a)) (Holds (Some b)) r h = carried (λ (z : Row). Holds (Some z)) a b r (λ e. cc) (row_decides a b r h)
+granted_decides (Holds a) (Says b) r h = apart _ _ r (λ e. cc) h
+granted_decides (Says a) Done r h = apart _ _ r (λ e. cc) h
+granted_decides (Says a) (Holds b) r h = apart _ _ r (λ e. cc) h
+granted_decides (Says a) (Says b) r h = carried Says a b r (λ e. cc) (by_test (beq a b) r h (booleans_Decides a b))
+
+pub answer_decides : (x y : Answer) (r : Bool) → r ≡ result_eq (answer_equality.ghosts).eq (refusal_equality.ghosts).eq x y → Decides r (x ≡ y)
+answer_decides (Ok a) (Ok b) r h = carried {Y = Answer} Ok a b r (λ e. cc) (granted_decides a b r h)
+answer_decides (Ok a) (Err b) r h = apart _ _ r (λ e. cc) h
+answer_decides (Err a) (Ok b) r h = apart _ _ r (λ e. cc) h
+answer_decides (Err a) (Err b) r h = carried {Y = Answer} Err a b r (λ e. cc) (refusal_decides a b r h)

@@ -8,13 +8,13 @@ use Rattle.covers.specs.Symbols.{Symbols}
 use Rattle.covers.specs.Words.{care_word}
 use Rattle.covers.proofs.RowWords.{care_word_fits}
 use Rattle.rows.specs.Widths.{places_of}
+use Rattle.rows.proofs.Widths.{places_some, places_most}
 use Rattle.device.specs.declared.column.Column.{Column}
 use Rattle.device.specs.declared.column_table.ColumnTable.{ColumnTable}
 use Rattle.device.specs.States.{SlotWithin, Lawful}
 use Rattle.device.specs.MadeRows.{row_made}
 use Rattle.device.specs.Columns.{column_symbol, blank_column, one_more, slot_symbols, slot_with, column_slot, column_slots}
-use Rattle.device.specs.ColumnTables.{slot_count, column_table_state}
-use Rattle.device.specs.SlotTableLaws.{least_places, most_places}
+use Rattle.device.specs.ColumnTables.{column_table_state}
 
 -- so many symbols, or nothing
 abbrev pub Counts : ℕ → Option Symbols → Type 0
@@ -44,8 +44,8 @@ pub column_table_lawful : (t : ColumnTable) → Lawful (column_table_state t)
 unfolding column_slots
 column_table_lawful t =
     record {
-      some_place = least_places t.width;
-      few_places = most_places t.width;
-      few_slots = omega (arith, length-map-range_with_len (column_slot (places_of t.width) t.columns) 0 (slot_count t));
-      rows_within = slots_within (places_of t.width) t.columns (range_with_len 0 (slot_count t));
+      some_place = places_some t.width;
+      few_places = places_most t.width;
+      few_slots = let few = t.few in omega (arith, length-map-range_with_len (column_slot (places_of t.width) t.columns) 0 t.count);
+      rows_within = slots_within (places_of t.width) t.columns (range_with_len 0 t.count);
     }

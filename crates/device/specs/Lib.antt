@@ -2,6 +2,7 @@ pub mod States
 pub mod Answers
 pub mod Levels
 pub mod MadeRows
+pub mod Exchanges
 pub mod Replays
 pub mod SlotTables
 pub mod SlotTableLaws

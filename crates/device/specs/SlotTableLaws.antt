@@ -1,22 +1,15 @@
 -- That the meaning of a slot table is lawful, whatever lies in its records.
 use Rattle.std.proofs.Common.{◌∙◌, mod-lt, arith, length-take, pow_pos}
-use Rattle.std.specs.Prelude.{ℕ, ◌%◌, ◌^◌, ◌≤◌, Bool, true, false, cond, List, [], ◌∷◌, map, take, Some, None}
+use Rattle.std.specs.Prelude.{ℕ, ◌%◌, ◌^◌, Bool, true, false, cond, List, [], ◌∷◌, map, take, Some, None}
 use Rattle.std.proofs.lemmas.List.{length-map}
 use Rattle.std.specs.List.{AllByRecursion}
-use Rattle.rows.specs.declared.width.Width.{Width}
 use Rattle.rows.specs.Widths.{places_of}
+use Rattle.rows.proofs.Widths.{places_some, places_most}
 use Rattle.device.specs.declared.slot_record.SlotRecord.{SlotRecord}
+use Rattle.device.specs.declared.slot_table.SlotTable.{SlotTable}
 use Rattle.device.specs.States.{SlotWithin, Lawful}
 use Rattle.device.specs.MadeRows.{row_made}
-use Rattle.device.specs.SlotTables.{slot_of, table_slots, table_state}
-
-pub least_places : (w : Width) → 1 ≤ places_of w
-unfolding places_of
-least_places w = omega arith
-
-pub most_places : (w : Width) → places_of w ≤ 32
-unfolding places_of
-most_places w = omega arith
+use Rattle.device.specs.SlotTables.{slot_of, table_slots, slot_table_state}
 
 slot_within : (n : ℕ) (r : SlotRecord) → SlotWithin n (slot_of n r)
 unfolding slot_of row_made
@@ -30,12 +23,13 @@ slots_within : (n : ℕ) (records : List SlotRecord) → AllByRecursion (SlotWit
 slots_within n [] = tt
 slots_within n (r ∷ records) = (slot_within n r, slots_within n records)
 
-pub table_lawful : (w : Width) (records : List SlotRecord) (muted : Bool) → Lawful (table_state w records muted)
+pub table_lawful : (t : SlotTable) → Lawful (slot_table_state t)
 unfolding table_slots
-table_lawful w records muted =
+table_lawful t =
+    let records = take 120 t.records.now in
     record {
-      some_place = least_places w;
-      few_places = most_places w;
-      few_slots = omega (arith, length-map (take 120 records) (slot_of (places_of w)) ∙ length-take 120 records);
-      rows_within = slots_within (places_of w) (take 120 records);
+      some_place = places_some t.width;
+      few_places = places_most t.width;
+      few_slots = omega (arith, length-map records (slot_of (places_of t.width)) ∙ length-take 120 t.records.now);
+      rows_within = slots_within (places_of t.width) records;
     }

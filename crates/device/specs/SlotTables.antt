@@ -1,9 +1,8 @@
 -- What the records of a slot table mean.
 use Rattle.std.specs.Prelude.{ℕ, ◌%◌, ◌^◌, min, Bool, true, false, cond, List, ◌++◌, map, length, take, drop, replicate, Some, None, Ok, Err, Result, slice_set}
+use Rattle.rows.specs.Widths.{places_of}
 use Rattle.rows.specs.declared.refusal.Refusal.{Refusal}
 use Rattle.rows.specs.declared.row.Row.{Row}
-use Rattle.rows.specs.declared.width.Width.{Width}
-use Rattle.rows.specs.Widths.{places_of}
 use Rattle.device.specs.declared.slot_record.SlotRecord.{SlotRecord}
 use Rattle.device.specs.declared.slot_table.SlotTable.{SlotTable}
 use Rattle.device.specs.States.{Slot, DeviceState}
@@ -17,11 +16,11 @@ slot_of n r = cond r.filled (Some (row_made r.value (r.care % 2 ^ n))) None
 unfoldable pub table_slots : ℕ → List SlotRecord → List Slot
 table_slots n records = map (slot_of n) (take 120 records)
 
-abbrev pub table_state : Width → List SlotRecord → Bool → DeviceState
-table_state w records muted = record { width = places_of w; slots = table_slots (places_of w) records; muted = muted }
+abbrev pub table_state : ℕ → List SlotRecord → Bool → DeviceState
+table_state n records muted = record { width = n; slots = table_slots n records; muted = muted }
 
 abbrev pub slot_table_state : SlotTable → DeviceState
-slot_table_state t = table_state t.width t.records.now t.muted
+slot_table_state t = table_state (places_of t.width) t.records.now t.muted
 
 -- the records that are no slots
 abbrev pub spare_records : SlotTable → List SlotRecord

@@ -1,5 +1,5 @@
 -- What a device means, and what it says to a number.
-use Rattle.std.specs.Prelude.{ℕ, ◌^◌, ◌<◌, ◌≤◌, Bool, false, not, ◌&&◌, ◌||◌, List, [], ◌∷◌, length, replicate, Some, None, Option, ◌==◌, bit_and}
+use Rattle.std.specs.Prelude.{ℕ, ◌^◌, ◌<◌, ◌≤◌, Bool, false, not, ◌&&◌, ◌||◌, List, [], ◌∷◌, length, replicate, Some, None, Option, IfSome, ◌==◌, bit_and}
 use Rattle.std.specs.List.{AllByRecursion}
 use Rattle.rows.specs.declared.row.Row.{Row}
 
@@ -32,8 +32,7 @@ says s x = not s.muted && some_slot_takes s.slots x
 
 -- a row in a slot cares about the last n places only
 abbrev pub SlotWithin : ℕ → Slot → Type 0
-SlotWithin n (Some r) = r.care < 2 ^ n
-SlotWithin n None = Unit {0}
+SlotWithin n content = IfSome content (λ r. r.care < 2 ^ n)
 
 -- what holds of every device at any time
 pub record Lawful (s : DeviceState) : Type 0 where

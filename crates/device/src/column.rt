@@ -41,18 +41,14 @@ impl Column {
         requires { slot < 128 }
         ensures value { (i : ℕ) → column_symbol self.new i ≡ (if nat_eq i slot then symbol else column_symbol self.old i) }
     {
-        let (zero, one) = match symbol {
-            Some(Symbol::Dash) => (true, true),
-            Some(Symbol::Zero) => (true, false),
-            Some(Symbol::One) => (false, true),
-            None => (false, false),
-        };
+        let zero = symbol.is_some_and(|symbol| symbol != Symbol::One);
+        let one = symbol.is_some_and(|symbol| symbol != Symbol::Zero);
         self.zeros = with(self.zeros, slot, zero);
         self.ones = with(self.ones, slot, one);
     }
 }
 
-// Whether the slot is in the set.
+// Whether the slot is in the set; of 128 slots, where `has_one` is of the 64 digits of a number.
 fn has(slots: u128, slot: usize) -> bool
     requires { slot < 128 }
     ensures value { result ≡ digit slot slots }

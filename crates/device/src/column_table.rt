@@ -1,37 +1,40 @@
 // The column table: a device that keeps its slots by columns.
-ghost use Rattle.std.specs.Prelude.{◌≡◌, ℕ, ◌<◌, min, ◌&&◌, if◌then◌else◌, nat_eq, nat_lt, slice_index_or};
+ghost use Rattle.std.specs.Prelude.{◌≡◌, ℕ, ◌<◌, ◌≤◌, min, ◌&&◌, if◌then◌else◌, nat_eq, nat_lt, slice_index_or};
 ghost use Rattle.covers.specs.Digits.{digit};
 ghost use Rattle.rows.specs.Widths.{places_of};
 ghost use Rattle.device.specs.States.{blank_state, slot_takes};
 ghost use Rattle.device.specs.Columns.{column_symbol, column_slot, row_symbol, blank_column};
-ghost use Rattle.device.specs.ColumnTables.{slot_count, column_table_state};
-ghost use Rattle.device.specs.ColumnTableLaws.{column_table_lawful};
 
+use super::checks::{check_number, check_row, check_slot};
 use super::column::Column;
 use super::device::{MOST_SLOTS, RowDevice};
 use covers::symbol::Symbol;
+use rows::digit::has_one;
 use rows::refusal::Refusal;
 use rows::row::Row;
+use rows::row_words::RowWords;
 use rows::width::Width;
 
 // A device that keeps, for each place and digit, the set of slots that admit it; an empty slot admits none.
-// Of the wished count at most 120 are slots: so every value is a table.
 #[derive(Drop)]
 pub struct ColumnTable {
     width: Width,
     count: usize,
     columns: [Column; 32],
     muted: bool,
+    ghost few: { count ≤ 120 },
 }
 
 impl ColumnTable {
+    ghost use Rattle.device.specs.ColumnTables.{column_table_state};
+
     // A table of so many slots, or of 120 if more are wished, its slots empty and the mute off.
     pub fn new(width: Width, slots: usize) -> ColumnTable
         ensures begins { column_table_state result ≡ blank_state (places_of width) (min 120 slots) }
     {
         ColumnTable {
             width,
-            count: slots,
+            count: slots.min(MOST_SLOTS),
             columns: [Column::BLANK; 32],
             muted: false,
         }
@@ -39,21 +42,43 @@ impl ColumnTable {
 
     // The slots whose row takes the number: the sets of its digits, intersected.
     fn taking(&self, number: u64) -> u128
-        ensures value { (i : ℕ) → digit i result ≡ (nat_lt i (slot_count self.now) && slot_takes (column_slot (places_of self.now.width) self.now.columns i) number) }
+        ensures value { (i : ℕ) → digit i result ≡ (nat_lt i self.now.count && slot_takes (column_slot (places_of self.now.width) self.now.columns i) number) }
     {
         let places = self.width.places() as usize;
-        let mut slots = (1u128 << self.slot_count()) - 1;
-        for (place, column) in self.columns.iter().enumerate() {
-            if place >= places {
-                break;
-            }
-            slots &= column.admitting((number >> place) & 1 == 1);
+        let mut slots = (1u128 << self.count) - 1;
+        for (place, column) in self.columns[..places].iter().enumerate() {
+            slots &= column.admitting(has_one(number, place as u32));
         }
         slots
     }
+
+    // What lies in the slot, read column by column: nothing where a column has no symbol for it.
+    fn content(&self, slot: usize) -> Option<Row>
+        requires { slot < 128 }
+        ensures value { result ≡ column_slot (places_of self.now.width) self.now.columns slot }
+    {
+        let places = self.width.places() as usize;
+        let mut words = RowWords::default();
+        for (place, column) in self.columns[..places].iter().enumerate() {
+            let bit = 1u32 << place;
+            match column.symbol(slot)? {
+                Symbol::Dash => {}
+                Symbol::Zero => words.care |= bit,
+                Symbol::One => {
+                    words.care |= bit;
+                    words.value |= bit;
+                }
+            }
+        }
+        Some(Row::from(words))
+    }
 }
 
+#[tactic(auto, using(crate::proofs::Columns::column_length))]
 impl RowDevice for ColumnTable {
+    ghost use Rattle.device.specs.ColumnTables.{column_table_state};
+    ghost use Rattle.device.specs.ColumnTableLaws.{column_table_lawful};
+
     ghost state = { λ t. column_table_state t };
 
     ghost lawful = { λ t. column_table_lawful t };
@@ -61,48 +86,21 @@ impl RowDevice for ColumnTable {
     ghost beneath = { λ _. tt };
 
     fn put(&mut self, slot: usize, row: Row) -> Result<(), Refusal> {
-        if slot >= self.slot_count() {
-            return Err(Refusal::NoSuchSlot);
-        }
-        if u64::from(row.care()) >= self.width.limit() {
-            return Err(Refusal::RowOutsideWidth);
-        }
+        check_slot(slot, self.slot_count())?;
+        check_row(row, self.width)?;
         write(&mut self.columns, slot, Some(row));
         Ok(())
     }
 
     fn empty(&mut self, slot: usize) -> Result<(), Refusal> {
-        if slot >= self.slot_count() {
-            return Err(Refusal::NoSuchSlot);
-        }
+        check_slot(slot, self.slot_count())?;
         write(&mut self.columns, slot, None);
         Ok(())
     }
 
     fn read(&self, slot: usize) -> Result<Option<Row>, Refusal> {
-        if slot >= self.slot_count() {
-            return Err(Refusal::NoSuchSlot);
-        }
-        let places = self.width.places() as usize;
-        let mut value = 0;
-        let mut care = 0;
-        for (place, column) in self.columns.iter().enumerate() {
-            if place >= places {
-                break;
-            }
-            let Some(symbol) = column.symbol(slot) else {
-                return Ok(None);
-            };
-            match symbol {
-                Symbol::Dash => {}
-                Symbol::Zero => care |= 1u32 << place,
-                Symbol::One => {
-                    care |= 1u32 << place;
-                    value |= 1u32 << place;
-                }
-            }
-        }
-        Ok(Some(Row::new(value, care)))
+        check_slot(slot, self.slot_count())?;
+        Ok(self.content(slot))
     }
 
     fn mute(&mut self, on: bool) {
@@ -110,9 +108,7 @@ impl RowDevice for ColumnTable {
     }
 
     fn ask(&self, number: u64) -> Result<bool, Refusal> {
-        if number >= self.width.limit() {
-            return Err(Refusal::NumberOutsideWidth);
-        }
+        check_number(number, self.width)?;
         Ok(!self.muted && self.taking(number) != 0)
     }
 
@@ -121,7 +117,7 @@ impl RowDevice for ColumnTable {
     }
 
     fn slot_count(&self) -> usize {
-        self.count.min(MOST_SLOTS)
+        self.count
     }
 }
 
@@ -131,17 +127,6 @@ fn write(columns: &mut [Column; 32], slot: usize, row: Option<Row>)
     ensures value { (place i : ℕ) → place < 32 → column_symbol (slice_index_or columns.new place blank_column) i ≡ (if nat_eq i slot then row_symbol row place else column_symbol (slice_index_or columns.old place blank_column) i) }
 {
     for (place, column) in columns.iter_mut().enumerate() {
-        column.write(slot, symbol_for(row, place));
-    }
-}
-
-// What a slot with this content asks for at a place.
-fn symbol_for(row: Option<Row>, place: usize) -> Option<Symbol>
-    requires { place < 32 }
-    ensures value { result ≡ row_symbol row place }
-{
-    match row {
-        Some(row) => Some(row.symbol_at(place as u32)),
-        None => None,
+        column.write(slot, row.map(|row| row.symbol_at(place as u32)));
     }
 }

@@ -2,9 +2,11 @@
 #![tactic(auto)]
 
 pub mod call;
+pub mod checks;
 mod column;
 pub mod column_table;
 pub mod device;
+pub mod exchange;
 pub mod replay;
 pub mod slot_record;
 pub mod slot_table;

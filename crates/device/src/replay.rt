@@ -1,41 +1,43 @@
 // Lists of calls, played on any device: the answers hang on what the device means, and on nothing else.
-ghost use Rattle.std.specs.Prelude.{◌≡◌, true, Decides};
-ghost use Rattle.device.specs.Replays.{answer_to, after_call, answers_to, after_calls, answered, calls_of};
+ghost use Rattle.std.specs.Prelude.{◌≡◌, true};
+ghost use Rattle.device.specs.Exchanges.{calls_of};
+ghost use Rattle.device.specs.Replays.{answer_to, after_call, answers_to, after_calls, answered};
 
-use super::call::{DeviceAnswer, DeviceCall, Exchange};
+use super::call::{DeviceAnswer, DeviceCall, DeviceExchange};
 use super::device::RowDevice;
+use rows::refusal::Refusal;
 
 // Makes one call.
-pub fn perform<D: RowDevice>(device: &mut D, call: DeviceCall) -> DeviceAnswer
+pub fn perform<D: RowDevice>(device: &mut D, call: DeviceCall) -> Result<DeviceAnswer, Refusal>
     ensures answer { result ≡ answer_to (D.RowDevice.state device.old) call }
     ensures after { D.RowDevice.state device.new ≡ after_call (D.RowDevice.state device.old) call }
 {
     match call {
-        DeviceCall::Put { slot, row } => match device.put(slot, row) {
-            Ok(()) => DeviceAnswer::Done,
-            Err(refusal) => DeviceAnswer::Refused(refusal),
-        },
-        DeviceCall::Empty { slot } => match device.empty(slot) {
-            Ok(()) => DeviceAnswer::Done,
-            Err(refusal) => DeviceAnswer::Refused(refusal),
-        },
-        DeviceCall::Read { slot } => match device.read(slot) {
-            Ok(content) => DeviceAnswer::Holds(content),
-            Err(refusal) => DeviceAnswer::Refused(refusal),
-        },
+        DeviceCall::Put { slot, row } => {
+            device.put(slot, row)?;
+            Ok(DeviceAnswer::Done)
+        }
+        DeviceCall::Empty { slot } => {
+            device.empty(slot)?;
+            Ok(DeviceAnswer::Done)
+        }
+        DeviceCall::Read { slot } => {
+            let content = device.read(slot)?;
+            Ok(DeviceAnswer::Holds(content))
+        }
         DeviceCall::Mute { on } => {
             device.mute(on);
-            DeviceAnswer::Done
+            Ok(DeviceAnswer::Done)
         }
-        DeviceCall::Ask { number } => match device.ask(number) {
-            Ok(yes) => DeviceAnswer::Says(yes),
-            Err(refusal) => DeviceAnswer::Refused(refusal),
-        },
+        DeviceCall::Ask { number } => {
+            let yes = device.ask(number)?;
+            Ok(DeviceAnswer::Says(yes))
+        }
     }
 }
 
 // Makes the calls in their order, and writes each answer beside its call.
-pub fn replay<D: RowDevice>(device: &mut D, exchanges: &mut [Exchange])
+pub fn replay<D: RowDevice>(device: &mut D, exchanges: &mut [DeviceExchange])
     ensures answers { exchanges.new ≡ answered (D.RowDevice.state device.old) exchanges.old }
     ensures after { D.RowDevice.state device.new ≡ after_calls (D.RowDevice.state device.old) (calls_of exchanges.old) }
 {
@@ -58,16 +60,8 @@ pub fn answer_alike<A: RowDevice, B: RowDevice>(
 {
     let mut alike = true;
     for call in calls {
-        let answer = perform(first, *call);
-        if !same(answer, perform(second, *call)) {
-            alike = false;
-        }
+        // a loop that goes on after a difference, since both devices get every call
+        alike &= perform(first, *call) == perform(second, *call);
     }
     alike
-}
-
-fn same(answer: DeviceAnswer, other: DeviceAnswer) -> bool
-    ensures value { Decides result (answer ≡ other) }
-{
-    answer == other
 }

@@ -1,11 +1,9 @@
 // The slot table: a device whose slots are records in the caller's memory.
-ghost use Rattle.std.specs.Prelude.{◌≡◌, ◌%◌, min, length, drop};
+ghost use Rattle.std.specs.Prelude.{◌≡◌, min, length, drop};
 ghost use Rattle.rows.specs.Widths.{places_of};
 ghost use Rattle.device.specs.States.{blank_state};
-ghost use Rattle.device.specs.Answers.{put_answer, after_put, empty_answer, after_empty, after_mute};
-ghost use Rattle.device.specs.SlotTables.{empty_record, record_filled, records_after, records_begun, records_of, slot_of, slot_table_state, spare_records};
-ghost use Rattle.device.specs.SlotTableLaws.{table_lawful};
 
+use super::checks::{check_number, check_row, check_slot};
 use super::device::{MOST_SLOTS, RowDevice};
 use super::slot_record::SlotRecord;
 use rows::refusal::Refusal;
@@ -21,6 +19,8 @@ pub struct SlotTable<'a> {
 }
 
 impl<'a> SlotTable<'a> {
+    ghost use Rattle.device.specs.SlotTables.{records_begun, records_of, slot_table_state, spare_records};
+
     // A table over the caller's records, its slots empty and the mute off.
     pub fn new(width: Width, records: &'a mut [SlotRecord]) -> SlotTable<'a>
         ensures begins { slot_table_state result ≡ blank_state (places_of width) (min 120 (length records.old)) }
@@ -28,9 +28,7 @@ impl<'a> SlotTable<'a> {
         ensures memory { records_of result ≡ records_begun records.old }
     {
         let used = records.len().min(MOST_SLOTS);
-        for slot in 0..used {
-            records[slot] = SlotRecord::EMPTY;
-        }
+        records[..used].fill(SlotRecord::EMPTY);
         SlotTable {
             width,
             records,
@@ -39,10 +37,15 @@ impl<'a> SlotTable<'a> {
     }
 }
 
+#[tactic(auto, using(crate::proofs::Tables::table_length))]
 impl RowDevice for SlotTable<'_> {
+    ghost use Rattle.device.specs.Answers.{put_answer, after_put, empty_answer, after_empty, after_mute};
+    ghost use Rattle.device.specs.SlotTables.{empty_record, record_filled, records_after, records_of, slot_table_state, spare_records};
+    ghost use Rattle.device.specs.SlotTableLaws.{table_lawful};
+
     ghost state = { λ t. slot_table_state t };
 
-    ghost lawful = { λ t. table_lawful t.width t.records.now t.muted };
+    ghost lawful = { λ t. table_lawful t };
 
     ghost beneath = { λ _. tt };
 
@@ -52,17 +55,9 @@ impl RowDevice for SlotTable<'_> {
         ensures rest { spare_records self.new ≡ spare_records self.old }
         ensures memory { records_of self.new ≡ records_after result (records_of self.old) slot (record_filled row) }
     {
-        if slot >= self.slot_count() {
-            return Err(Refusal::NoSuchSlot);
-        }
-        if u64::from(row.care()) >= self.width.limit() {
-            return Err(Refusal::RowOutsideWidth);
-        }
-        self.records[slot] = SlotRecord {
-            filled: true,
-            value: row.value(),
-            care: row.care(),
-        };
+        check_slot(slot, self.slot_count())?;
+        check_row(row, self.width)?;
+        self.records[slot] = SlotRecord::from(row);
         Ok(())
     }
 
@@ -72,19 +67,14 @@ impl RowDevice for SlotTable<'_> {
         ensures rest { spare_records self.new ≡ spare_records self.old }
         ensures memory { records_of self.new ≡ records_after result (records_of self.old) slot empty_record }
     {
-        if slot >= self.slot_count() {
-            return Err(Refusal::NoSuchSlot);
-        }
+        check_slot(slot, self.slot_count())?;
         self.records[slot] = SlotRecord::EMPTY;
         Ok(())
     }
 
     fn read(&self, slot: usize) -> Result<Option<Row>, Refusal> {
-        if slot >= self.slot_count() {
-            return Err(Refusal::NoSuchSlot);
-        }
-        let record = self.records[slot];
-        Ok(row_in(record, self.width))
+        check_slot(slot, self.slot_count())?;
+        Ok(self.records[slot].row(self.width))
     }
 
     fn mute(&mut self, on: bool)
@@ -96,21 +86,18 @@ impl RowDevice for SlotTable<'_> {
     }
 
     fn ask(&self, number: u64) -> Result<bool, Refusal> {
-        if number >= self.width.limit() {
-            return Err(Refusal::NumberOutsideWidth);
-        }
+        check_number(number, self.width)?;
         if self.muted {
             return Ok(false);
         }
         let count = self.slot_count();
+        // the form that the project asks for: every filled slot is looked at in turn, by its index
         for (slot, record) in self.records.iter().enumerate() {
             if slot >= count {
                 break;
             }
-            if let Some(row) = row_in(*record, self.width) {
-                if row.takes(number) {
-                    return Ok(true);
-                }
+            if record.row(self.width).is_some_and(|row| row.takes(number)) {
+                return Ok(true);
             }
         }
         Ok(false)
@@ -122,17 +109,5 @@ impl RowDevice for SlotTable<'_> {
 
     fn slot_count(&self) -> usize {
         self.records.len().min(MOST_SLOTS)
-    }
-}
-
-// The row that the record holds, made anew from its words, so that whatever lies in memory is a row of the width.
-fn row_in(content: SlotRecord, width: Width) -> Option<Row>
-    ensures value { result ≡ slot_of (places_of width) content }
-{
-    if content.filled {
-        let care = u64::from(content.care) % width.limit();
-        Some(Row::new(content.value, care as u32))
-    } else {
-        None
     }
 }

@@ -1,70 +1,57 @@
 // A device of one slot, written from outside the crate of the interface.
-ghost use Rattle.std.specs.Prelude.{◌^◌, ◌<◌};
+ghost use Rattle.std.specs.Prelude.{◌^◌, ◌<◌, IfSome};
+ghost use Rattle.std.proofs.Props.{props};
 ghost use Rattle.rows.specs.Widths.{places_of};
-ghost use Rattle.device_tests.specs.OneSlots.{one_slot_state, one_slot_lawful};
 
+use device::checks::{check_number, check_row, check_slot};
 use device::device::RowDevice;
 use rows::refusal::Refusal;
 use rows::row::Row;
 use rows::width::Width;
 
-// A row of no care stands in for an empty slot's.
 #[derive(Drop)]
 struct OneSlot {
     width: Width,
-    filled: bool,
-    row: Row,
+    row: Option<Row>,
     muted: bool,
-    ghost fits: { row.care < 2 ^ places_of width },
+    ghost fits: { IfSome row (λ r. r.care < 2 ^ places_of width) } by { Prim.hlevel props },
 }
 
 impl OneSlot {
     fn new(width: Width) -> OneSlot {
         OneSlot {
             width,
-            filled: false,
-            row: Row::new(0, 0),
+            row: None,
             muted: false,
         }
     }
 }
 
 impl RowDevice for OneSlot {
-    ghost state = { λ d. one_slot_state d.width d.filled d.row d.muted };
+    ghost use Rattle.device_tests.specs.OneSlots.{one_slot_state, one_slot_lawful};
 
-    ghost lawful = { λ d. one_slot_lawful d.width d.filled d.row d.muted d.fits };
+    ghost state = { λ d. one_slot_state d.width d.row d.muted };
+
+    ghost lawful = { λ d. one_slot_lawful d.width d.row d.muted d.fits };
 
     ghost beneath = { λ _. tt };
 
     fn put(&mut self, slot: usize, row: Row) -> Result<(), Refusal> {
-        if slot >= 1 {
-            return Err(Refusal::NoSuchSlot);
-        }
-        if u64::from(row.care()) >= self.width.limit() {
-            return Err(Refusal::RowOutsideWidth);
-        }
-        self.row = row;
-        self.filled = true;
+        check_slot(slot, 1)?;
+        check_row(row, self.width)?;
+        self.row = Some(row);
         Ok(())
     }
 
     fn empty(&mut self, slot: usize) -> Result<(), Refusal> {
-        if slot >= 1 {
-            return Err(Refusal::NoSuchSlot);
-        }
-        self.filled = false;
+        check_slot(slot, 1)?;
+        self.row = None;
         Ok(())
     }
 
     fn read(&self, slot: usize) -> Result<Option<Row>, Refusal> {
-        if slot >= 1 {
-            return Err(Refusal::NoSuchSlot);
-        }
-        if self.filled {
-            Ok(Some(self.row))
-        } else {
-            Ok(None)
-        }
+        check_slot(slot, 1)?;
+        Ok(self.row)
     }
 
     fn mute(&mut self, on: bool) {
@@ -72,10 +59,8 @@ impl RowDevice for OneSlot {
     }
 
     fn ask(&self, number: u64) -> Result<bool, Refusal> {
-        if number >= self.width.limit() {
-            return Err(Refusal::NumberOutsideWidth);
-        }
-        Ok(!self.muted && self.filled && self.row.takes(number))
+        check_number(number, self.width)?;
+        Ok(!self.muted && self.row.is_some_and(|row| row.takes(number)))
     }
 
     fn width(&self) -> Width {
@@ -100,7 +85,7 @@ mod tests {
 
     #[test]
     fn answers_as_a_table_of_one_record(rt: HostRuntime) -> Result<(), Fail> {
-        let width = Width::new(5)?;
+        let width = Width::try_from(5)?;
         let mut one = OneSlot::new(width);
         let mut records = [SlotRecord::EMPTY; 1];
         let mut table = SlotTable::new(width, &mut records);

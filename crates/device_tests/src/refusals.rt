@@ -47,7 +47,7 @@ fn holds_at_the_end<D: RowDevice>(rt: &impl Abort, device: &mut D, slot: usize) 
 
 #[test]
 fn slot_tables_refuse(rt: HostRuntime) -> Result<(), Fail> {
-    let width = Width::new(4)?;
+    let width = Width::try_from(4)?;
     let mut none: [SlotRecord; 0] = [];
     refuses(&rt, &mut SlotTable::new(width, &mut none), 0);
     let mut three = [SlotRecord::EMPTY; 3];
@@ -57,7 +57,7 @@ fn slot_tables_refuse(rt: HostRuntime) -> Result<(), Fail> {
 
 #[test]
 fn column_tables_refuse(rt: HostRuntime) -> Result<(), Fail> {
-    let width = Width::new(4)?;
+    let width = Width::try_from(4)?;
     refuses(&rt, &mut ColumnTable::new(width, 0), 0);
     refuses(&rt, &mut ColumnTable::new(width, 3), 3);
     let mut most = ColumnTable::new(width, 500);
@@ -68,7 +68,7 @@ fn column_tables_refuse(rt: HostRuntime) -> Result<(), Fail> {
 
 #[test]
 fn memory_beyond_the_last_slot_stays(rt: HostRuntime) -> Result<(), Fail> {
-    let width = Width::new(4)?;
+    let width = Width::try_from(4)?;
     let mark = SlotRecord {
         filled: true,
         value: 3,
@@ -106,6 +106,6 @@ fn both_tables_answer_alike(rt: HostRuntime) -> Result<(), Fail> {
         DeviceCall::Empty { slot: 3 },
         DeviceCall::Ask { number: 0b1110 },
     ];
-    assert!(rt; tables_answer_alike(Width::new(4)?, &calls));
+    assert!(rt; tables_answer_alike(Width::try_from(4)?, &calls));
     Ok(())
 }

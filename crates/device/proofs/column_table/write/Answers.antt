@@ -1,4 +1,4 @@
-use Rattle.std.proofs.Common.{◌≡◌, ℕ, ◌<◌, cond, eqb, length, get_or, Option, ap, ◌∙◌, arith, length-set}
+use Rattle.std.proofs.Common.{◌≡◌, ℕ, ◌<◌, cond, eqb, length, get_or, Option, ap, ◌∙◌, arith, length-set, rules}
 use Rattle.covers.specs.declared.symbol.Symbol.{Symbol}
 use Rattle.device.specs.Columns.{column_symbol, row_symbol, blank_column}
 use Rattle.device.proofs.Columns.{written_more, rest_more}
@@ -8,17 +8,15 @@ pub loop-place-preserved : goal.loop-place-preserved
 loop-place-preserved c =
     let was = c.args.columns.now in
     let columns = c.loop-place.columns in
-    let at = c.loop-place.place in
+    let at = c.loop-place.place-counter in
     let slot = c.args.slot in
     let here : at < length columns = omega arith in
+    let asked : c.map.result ≡ row_symbol c.args.row at = search rules in
     let now : (i : ℕ) → column_symbol c.write.new.self i ≡ cond (eqb i slot) (row_symbol c.args.row at) (column_symbol (get_or columns at blank_column) i) =
     λ i. c.write.ensures.value i ∙
-    ap (λ (s : Option Symbol). cond (eqb i slot) s (column_symbol (get_or columns at blank_column) i)) c.symbol_for.ensures.value in
+    ap (λ (s : Option Symbol). cond (eqb i slot) s (column_symbol (get_or columns at blank_column) i)) asked in
     let inv = c.loop-place.invariant in (
       length-set columns at c.write.new.self ∙ inv.0,
       written_more was columns at slot c.args.row c.write.new.self here now inv.2 inv.1,
       rest_more was columns at slot c.args.row c.write.new.self here now inv.2,
     )
-
-pub returns : goal.returns
-returns c = record { value = λ place i h. c.loop-place.invariant.1 place i (omega arith) }

@@ -1,5 +1,6 @@
 use Rattle.std.proofs.Common.{◌≡◌, ◌++◌, take, drop}
-use Rattle.device.specs.Replays.{answered, after_calls, calls_of}
+use Rattle.device.specs.Exchanges.{calls_of}
+use Rattle.device.specs.Replays.{answered, after_calls}
 use Rattle.device.proofs.replay.replay.Given as goal
 
 -- what is left is as it was; with it answered from here on, all is answered from the start

@@ -1,6 +1,6 @@
 use Rattle.std.proofs.Common.{◌^◌, ◌<◌, ◌∙◌, rules}
 use Rattle.rows.specs.Widths.{places_of}
-use Rattle.device.specs.ColumnTables.{slot_count, column_table_state}
+use Rattle.device.specs.ColumnTables.{column_table_state}
 use Rattle.device.proofs.Granted.{ask_is}
 use Rattle.device.proofs.Columns.{some_taking}
 use Rattle.device.proofs.column_table.ColumnTableRowDevice.ask.Goals as goal
@@ -11,5 +11,5 @@ returns-then-not-self c =
     let n = places_of t.width in
     let x = c.args.number in
     let fit : x < 2 ^ n = search rules in
-    let some = some_taking n t.columns (slot_count t) x c.taking.result c.taking.type_inv c.taking.ensures.value in
+    let some = some_taking n t.columns t.count x c.taking.result c.taking.type_inv c.taking.ensures.value in
     record { answer = ask_is (column_table_state t) x _ fit (some ∙ rw c.if-not-self.true) }

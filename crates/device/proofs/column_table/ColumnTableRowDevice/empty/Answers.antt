@@ -1,32 +1,11 @@
-use Rattle.std.proofs.Common.{◌<◌, List, length, None, refl, ap, ◌∙◌, arith, rules}
+use Rattle.std.proofs.Common.{◌<◌, length, rules}
 use Rattle.rows.specs.Widths.{places_of}
-use Rattle.device.specs.States.{Slot, DeviceState}
-use Rattle.device.specs.SlotTableLaws.{least_places, most_places}
 use Rattle.device.specs.Columns.{column_slots}
-use Rattle.device.specs.ColumnTables.{slot_count, column_table_state}
-use Rattle.device.proofs.Granted.{empty_left}
-use Rattle.device.proofs.Columns.{column_length, slot_emptied, slots_written}
+use Rattle.device.proofs.ColumnTables.{table_emptied}
 use Rattle.device.proofs.column_table.ColumnTableRowDevice.empty.Goals as goal
 
-pub write-requires : goal.write-requires
-write-requires c =
+pub returns-clause-after : goal.returns-clause-after
+returns-clause-after c =
     let t = c.args.self.now in
-    let e = column_length (places_of t.width) t.columns (slot_count t) in
-    omega arith
-
-pub returns : goal.returns
-returns c =
-    let t = c.args.self.now in
-    let n = places_of t.width in
-    let slot = c.args.slot in
-    let is = c.write.new.columns in
-    let most = most_places t.width in
-    let within : slot < length (column_slots n t.columns (slot_count t)) = omega arith in
-    let short : slot < slot_count t = let e = column_length n t.columns (slot_count t) in omega arith in
-    let written = c.write.ensures.value in
-    record {
-      answer = search rules;
-      after = ap {B = DeviceState} (λ (l : List Slot). record { width = n; slots = l; muted = t.muted })
-          (slots_written t.columns is slot None written n (slot_count t) most short (slot_emptied t.columns is slot None written n refl (least_places t.width) most))
-          ∙ empty_left (column_table_state t) slot within;
-    }
+    let within : c.args.slot < length (column_slots (places_of t.width) t.columns t.count) = search rules in
+    table_emptied t c.write.new.columns c.args.slot within c.write.ensures.value

@@ -1,4 +1,4 @@
-use Rattle.std.proofs.Common.{◌≡◌, ℕ, ◌^◌, ◌<◌, ◌≤◌, min, true, false, length, take, Ok, sym, refl, ap, ◌∙◌, arith, rules}
+use Rattle.std.proofs.Common.{◌≡◌, ℕ, ◌^◌, ◌<◌, ◌≤◌, min, true, false, length, take, Ok, sym, ap, ◌∙◌, arith, rules}
 use Rattle.rows.specs.Widths.{places_of}
 use Rattle.device.specs.declared.slot_table.SlotTable.{SlotTable}
 use Rattle.device.specs.States.{Slot, slot_takes, some_slot_takes}
@@ -8,42 +8,33 @@ use Rattle.device.proofs.Granted.{ask_is, says_none, says_some}
 use Rattle.device.proofs.Slots.{none_more, none_all, one_takes}
 use Rattle.device.proofs.Tables.{table_length, table_at}
 use Rattle.device.proofs.slot_table.SlotTableRowDevice.ask.Goals as goal
-use Rattle.device.proofs.slot_table.SlotTableRowDevice.ask.Goals.{in-Some+else-takes, in_default}
 
-pub loop-slot-init : goal.loop-slot-init
-loop-slot-init c = refl
-
-pub returns-then-takes : goal.returns-then-takes
-returns-then-takes c =
+pub returns-then-is_some_and : goal.returns-then-is_some_and
+returns-then-is_some_and c =
     let t = c.args.self.now in
     let rs = t.records.now in
-    let n = places_of t.width in
+    let n = (places_of t.width) in
     let x = c.args.number in
     let fit : x < 2 ^ n = search rules in
     let within : c.loop-slot.slot < length (table_slots n rs) = omega (arith, table_length n rs) in
-    let takes : slot_takes c.row_in.result x ≡ true =
-    ap (λ (s : Slot). slot_takes s x) c.in-Some.is ∙ sym c.takes.ensures.by_mask ∙ c.if-takes.true in
+    let takes : slot_takes c.row.result x ≡ true = search rules in
     let hit = one_takes x (table_slots n rs) c.loop-slot.slot within
-    (ap (λ (s : Slot). slot_takes s x) (table_at n rs c.loop-slot.slot _ within ∙ sym c.row_in.ensures.value) ∙ takes) in
+    (ap (λ (s : Slot). slot_takes s x) (table_at n rs c.loop-slot.slot _ within ∙ sym c.row.ensures.value) ∙ takes) in
     record { answer = ask_is (slot_table_state t) x true fit (says_some (slot_table_state t) x c.if-self.false hit) }
 
 pub loop-slot-preserved : goal.loop-slot-preserved
 loop-slot-preserved c =
     let t = c.args.self.now in
     let rs = t.records.now in
-    let n = places_of t.width in
+    let n = (places_of t.width) in
     let x = c.args.number in
     let within : c.loop-slot.slot < length (table_slots n rs) = omega (arith, table_length n rs) in
-    let passed : slot_takes c.row_in.result x ≡ false =
-    elim c.match-row_in.branch [
-      | in-Some+else-takes w ↦ ap (λ (s : Slot). slot_takes s x) w.in-Some.is ∙ sym w.takes.ensures.by_mask ∙ w.if-takes.false
-      | in_default w ↦ ap (λ (s : Slot). slot_takes s x) w.in_default.is
-    ] in
+    let passed : slot_takes c.row.result x ≡ false = search rules in
     none_more x (table_slots n rs) c.loop-slot.slot within c.loop-slot.invariant
-    (ap (λ (s : Slot). slot_takes s x) (table_at n rs c.loop-slot.slot _ within ∙ sym c.row_in.ensures.value) ∙ passed)
+    (ap (λ (s : Slot). slot_takes s x) (table_at n rs c.loop-slot.slot _ within ∙ sym c.row.ensures.value) ∙ passed)
 
 -- all slots were passed
-passed_all : (t : SlotTable) (x i : ℕ) → x < 2 ^ places_of t.width → min 120 (length t.records.now) ≤ i →
+passed_all : (t : SlotTable) (x i : ℕ) → x < 2 ^ (places_of t.width) → min 120 (length t.records.now) ≤ i →
     some_slot_takes (take i (table_slots (places_of t.width) t.records.now)) x ≡ false → Ok false ≡ ask_answer (slot_table_state t) x
 passed_all t x i fit past none =
     let slots = table_slots (places_of t.width) t.records.now in
@@ -53,12 +44,5 @@ passed_all t x i fit past none =
 pub returns-after-loop-slot : goal.returns-after-loop-slot
 returns-after-loop-slot c =
     let t = c.args.self.now in
-    let fit : c.args.number < 2 ^ places_of t.width = search rules in
-    record { answer = passed_all t c.args.number c.loop-slot.slot fit (omega arith) c.loop-slot.invariant }
-
-pub returns-then-slot-count : goal.returns-then-slot-count
-returns-then-slot-count c =
-    let t = c.args.self.now in
-    let fit : c.args.number < 2 ^ places_of t.width = search rules in
-    let long = table_length (places_of t.width) t.records.now in
+    let fit : c.args.number < 2 ^ (places_of t.width) = search rules in
     record { answer = passed_all t c.args.number c.loop-slot.slot fit (omega arith) c.loop-slot.invariant }

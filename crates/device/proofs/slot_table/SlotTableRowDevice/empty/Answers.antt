@@ -1,28 +1,17 @@
-use Rattle.std.proofs.Common.{◌<◌, List, length, set, refl, ap, ◌∙◌, arith, rules, drop-set-lt}
+use Rattle.std.proofs.Common.{◌<◌, length, rules}
 use Rattle.rows.specs.Widths.{places_of}
-use Rattle.device.specs.States.{Slot, DeviceState}
-use Rattle.device.specs.SlotTables.{table_slots, slot_table_state}
-use Rattle.device.proofs.Granted.{empty_left}
-use Rattle.device.proofs.Tables.{table_length, table_set, slot_of_empty}
+use Rattle.device.specs.SlotTables.{empty_record, table_slots}
+use Rattle.device.proofs.Tables.{spare_kept, slots_emptied}
 use Rattle.device.proofs.slot_table.SlotTableRowDevice.empty.Goals as goal
 
-pub offset_bounds-self-slot : goal.offset_bounds-self-slot
-offset_bounds-self-slot c = let e = table_length (places_of c.args.self.now.width) c.args.self.now.records.now in search rules
-
-pub bounds-self-slot : goal.bounds-self-slot
-bounds-self-slot c = let e = table_length (places_of c.args.self.now.width) c.args.self.now.records.now in omega arith
-
-pub returns : goal.returns
-returns c =
+pub returns-clause-after : goal.returns-clause-after
+returns-clause-after c =
     let t = c.args.self.now in
-    let rs = t.records.now in
-    let n = places_of t.width in
-    let within : c.args.slot < length (table_slots n rs) = omega arith in
-    record {
-      answer = search rules;
-      after = ap {B = DeviceState} (λ (l : List Slot). record { width = n; slots = l; muted = t.muted })
-          (table_set n rs c.args.slot _ within ∙ ap (set (table_slots n rs) c.args.slot) (slot_of_empty n _ _))
-          ∙ empty_left (slot_table_state t) c.args.slot within;
-      rest = drop-set-lt 120 rs c.args.slot _ (omega (arith, table_length n rs));
-      memory = refl;
-    }
+    let within : c.args.slot < length (table_slots (places_of t.width) t.records.now) = search rules in
+    slots_emptied (places_of t.width) t.records.now t.muted c.args.slot within
+
+pub returns-clause-rest : goal.returns-clause-rest
+returns-clause-rest c =
+    let t = c.args.self.now in
+    let within : c.args.slot < length (table_slots (places_of t.width) t.records.now) = search rules in
+    spare_kept (places_of t.width) t.records.now c.args.slot empty_record within

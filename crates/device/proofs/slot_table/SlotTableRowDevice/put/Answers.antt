@@ -1,32 +1,20 @@
-use Rattle.std.proofs.Common.{ℕ, ◌^◌, ◌<◌, true, List, length, set, ap, ◌∙◌, ap₂, arith, rules, drop-set-lt}
+use Rattle.std.proofs.Common.{◌^◌, ◌<◌, length, set, ap, ◌∙◌, rules}
 use Rattle.rows.specs.Widths.{places_of}
-use Rattle.device.specs.States.{Slot, DeviceState}
-use Rattle.device.specs.SlotTables.{slot_of, table_slots, slot_table_state}
-use Rattle.device.proofs.Granted.{put_left}
-use Rattle.device.proofs.Tables.{table_length, table_set, slot_of_row}
+use Rattle.device.specs.declared.slot_record.SlotRecord.{SlotRecord}
+use Rattle.device.specs.SlotTables.{table_slots, table_state}
+use Rattle.device.proofs.Tables.{spare_kept, slots_put}
 use Rattle.device.proofs.slot_table.SlotTableRowDevice.put.Goals as goal
 
-pub offset_bounds-self-slot : goal.offset_bounds-self-slot
-offset_bounds-self-slot c = let e = table_length (places_of c.args.self.now.width) c.args.self.now.records.now in search rules
-
-pub bounds-self-slot : goal.bounds-self-slot
-bounds-self-slot c = let e = table_length (places_of c.args.self.now.width) c.args.self.now.records.now in omega arith
-
-pub returns : goal.returns
-returns c =
+pub returns-clause-after : goal.returns-clause-after
+returns-clause-after c =
     let t = c.args.self.now in
-    let rs = t.records.now in
-    let n = places_of t.width in
-    let row = c.args.row in
-    let within : c.args.slot < length (table_slots n rs) = omega arith in
-    let fit : row.care < 2 ^ n = search rules in
-    record {
-      answer = search rules;
-      after = ap {B = DeviceState} (λ (l : List Slot). record { width = n; slots = l; muted = t.muted })
-          (table_set n rs c.args.slot _ within
-          ∙ ap (set (table_slots n rs) c.args.slot)
-          (ap₂ (λ (v d : ℕ). slot_of n (record { filled = true; value = v; care = d })) c.value.ensures.value c.care-2.ensures.value ∙ slot_of_row n row fit))
-          ∙ put_left (slot_table_state t) c.args.slot row within fit;
-      rest = drop-set-lt 120 rs c.args.slot _ (omega (arith, table_length n rs));
-      memory = ap₂ (λ (v d : ℕ). set rs c.args.slot record { filled = true; value = v; care = d }) c.value.ensures.value c.care-2.ensures.value;
-    }
+    let within : c.args.slot < length (table_slots (places_of t.width) t.records.now) = search rules in
+    let fit : c.args.row.care < 2 ^ (places_of t.width) = search rules in
+    ap (λ (r : SlotRecord). table_state (places_of t.width) (set t.records.now c.args.slot r) t.muted) c.from.ensures ∙
+    slots_put (places_of t.width) t.records.now t.muted c.args.slot within c.args.row fit
+
+pub returns-clause-rest : goal.returns-clause-rest
+returns-clause-rest c =
+    let t = c.args.self.now in
+    let within : c.args.slot < length (table_slots (places_of t.width) t.records.now) = search rules in
+    spare_kept (places_of t.width) t.records.now c.args.slot c.from.result within
