@@ -1,15 +1,14 @@
 -- What a layer answers, by what the device below answers.
-use Rattle.std.proofs.Common.{◌≡◌, ℕ, ◌^◌, ◌<◌, Bool, true, false, cond, not, ◌&&◌, ◌||◌, ltb, List, [], ◌∷◌, length, get_or, set, Some, None, Ok, Err, Result, sym, refl, ap, ◌∙◌, ap₂}
+use Rattle.std.proofs.Common.{◌≡◌, ℕ, ◌^◌, ◌<◌, Bool, true, false, cond, not, ◌&&◌, ◌||◌, ltb, List, [], ◌∷◌, length, set, Some, None, Ok, Err, Result, sym, refl, ap, ◌∙◌, ap₂}
 use lib.ListN.{length-map}
 use lib.Seq.{map-set}
 use Rattle.std.specs.List.{AllByRecursion}
-use Rattle.std.proofs.lemmas.List.{get_or-map}
 use Rattle.std.proofs.lemmas.Bool.{lt-ltb, ltb-true}
 use Rattle.rows.specs.declared.row.Row.{Row}
 use Rattle.rows.specs.declared.refusal.Refusal.{Refusal}
 use Rattle.rows.specs.declared.refusal.Refusal.TheVariants.{NumberOutsideWidth, NoSuchSlot, RowOutsideWidth}
 use Rattle.device.specs.States.{Slot, DeviceState, SlotWithin, row_takes, some_slot_takes, says}
-use Rattle.device.specs.Answers.{with_slot, if_granted, put_answer, after_put, empty_answer, after_empty, read_answer, ask_answer}
+use Rattle.device.specs.Answers.{with_slot, if_granted, after_put, after_empty, ask_answer}
 use Rattle.device.specs.Levels.{Carrying, Carries, carried_slot, carried_slots}
 use Rattle.layers.specs.Layers.{layer_state, number_below, row_below}
 
@@ -20,16 +19,8 @@ put_of t u = cond t (cond u (Ok tt) (Err RowOutsideWidth)) (Err NoSuchSlot)
 abbrev empty_of : Bool → Result (Unit {0}) Refusal
 empty_of t = cond t (Ok tt) (Err NoSuchSlot)
 
-abbrev read_of : Bool → Slot → Result Slot Refusal
-read_of t content = cond t (Ok content) (Err NoSuchSlot)
-
 abbrev ask_of : Bool → Bool → Result Bool Refusal
 ask_of t said = cond t (Ok said) (Err NumberOutsideWidth)
-
--- the answer to a read, the row carried
-abbrev pub carried_answer : (Row → Row) → Result Slot Refusal → Result Slot Refusal
-carried_answer carry (Ok content) = Ok (carried_slot carry content)
-carried_answer carry (Err e) = Err e
 
 abbrev holding : DeviceState → List Slot → DeviceState
 holding s slots = record { width = s.width; slots = slots; muted = s.muted }
@@ -44,7 +35,7 @@ carried_takes n c k x h (Some r ∷ slots) w =
 carried_takes n c k x h (None ∷ slots) w = carried_takes n c k x h slots w.1
 
 module _ (carrying : ℕ → Carrying) (s : DeviceState) where
-  pub carried_length : length (layer_state carrying s).slots ≡ length s.slots
+  carried_length : length (layer_state carrying s).slots ≡ length s.slots
   carried_length = length-map s.slots (carried_slot (carrying s.width).row_back)
 
   row_below_cares : Carries s.width (carrying s.width) → (r : Row) → ltb (row_below carrying s r).care (2 ^ s.width) ≡ ltb r.care (2 ^ s.width)
@@ -54,11 +45,8 @@ module _ (carrying : ℕ → Carrying) (s : DeviceState) where
       go true e = lt-ltb ((carrying s.width).row_there r).care (2 ^ s.width) (k.row_stays r (ltb-true r.care (2 ^ s.width) e))
       go false e = e
 
-  pub put_carried : Carries s.width (carrying s.width) → (i : ℕ) (r : Row) → put_answer s i (row_below carrying s r) ≡ put_answer (layer_state carrying s) i r
-  put_carried k i r = ap₂ put_of (ap (ltb i) (sym carried_length)) (row_below_cares k r)
-
-  pub after_put_carried : Carries s.width (carrying s.width) → (i : ℕ) (r : Row) → layer_state carrying (after_put s i (row_below carrying s r)) ≡ after_put (layer_state carrying s) i r
-  after_put_carried k i r =
+  put_carried : Carries s.width (carrying s.width) → (i : ℕ) (r : Row) → layer_state carrying (after_put s i (row_below carrying s r)) ≡ after_put (layer_state carrying s) i r
+  put_carried k i r =
       ap (λ (u : Bool). layer_state carrying (if_granted (put_of (ltb i (length s.slots)) u) (with_slot s i (Some (row_below carrying s r))) s)) (row_below_cares k r) ∙
       go (ltb i (length s.slots)) (ltb r.care (2 ^ s.width)) refl ∙
       ap (λ (t : Bool). if_granted (put_of t (ltb r.care (2 ^ s.width))) (with_slot (layer_state carrying s) i (Some r)) (layer_state carrying s)) (ap (ltb i) (sym carried_length))
@@ -74,31 +62,21 @@ module _ (carrying : ℕ → Carrying) (s : DeviceState) where
       go false true e = refl
       go false false e = refl
 
-  pub empty_carried : (i : ℕ) → empty_answer s i ≡ empty_answer (layer_state carrying s) i
-  empty_carried i = ap empty_of (ap (ltb i) (sym carried_length))
+  pub after_put_carried : Carries s.width (carrying s.width) → (i : ℕ) (r below : Row) (t : DeviceState) → below ≡ row_below carrying s r → t ≡ after_put s i below →
+      layer_state carrying t ≡ after_put (layer_state carrying s) i r
+  after_put_carried k i r below t e f = ap (layer_state carrying) (f ∙ ap (after_put s i) e) ∙ put_carried k i r
 
-  pub after_empty_carried : (i : ℕ) → layer_state carrying (after_empty s i) ≡ after_empty (layer_state carrying s) i
-  after_empty_carried i =
-      go (ltb i (length s.slots)) ∙
+  pub after_empty_carried : (i : ℕ) (t : DeviceState) → t ≡ after_empty s i → layer_state carrying t ≡ after_empty (layer_state carrying s) i
+  after_empty_carried i t f =
+      ap (layer_state carrying) f ∙ go (ltb i (length s.slots)) ∙
       ap (λ (t : Bool). if_granted (empty_of t) (with_slot (layer_state carrying s) i None) (layer_state carrying s)) (ap (ltb i) (sym carried_length))
     where
       go : (t : Bool) → layer_state carrying (if_granted (empty_of t) (with_slot s i None) s) ≡ if_granted (empty_of t) (with_slot (layer_state carrying s) i None) (layer_state carrying s)
       go true = ap (holding s) (map-set (carried_slot (carrying s.width).row_back) s.slots i None)
       go false = refl
 
-  pub read_carried : (i : ℕ) → carried_answer (carrying s.width).row_back (read_answer s i) ≡ read_answer (layer_state carrying s) i
-  read_carried i =
-      go (ltb i (length s.slots)) refl ∙
-      ap (λ (t : Bool). read_of t (get_or (layer_state carrying s).slots i None)) (ap (ltb i) (sym carried_length))
-    where
-      go : (t : Bool) → ltb i (length s.slots) ≡ t →
-          carried_answer (carrying s.width).row_back (read_of t (get_or s.slots i None)) ≡ read_of t (get_or (layer_state carrying s).slots i None)
-      go true e =
-          ap {B = Result Slot Refusal} Ok (sym (get_or-map (carried_slot (carrying s.width).row_back) s.slots i None None (ltb-true i (length s.slots) e)))
-      go false e = refl
-
-  pub ask_carried : Carries s.width (carrying s.width) → AllByRecursion (SlotWithin s.width) s.slots → (x : ℕ) → ask_answer s (number_below carrying s x) ≡ ask_answer (layer_state carrying s) x
-  ask_carried k w x = go (ltb x (2 ^ s.width)) refl
+  asked_carried : Carries s.width (carrying s.width) → AllByRecursion (SlotWithin s.width) s.slots → (x : ℕ) → ask_answer s (number_below carrying s x) ≡ ask_answer (layer_state carrying s) x
+  asked_carried k w x = go (ltb x (2 ^ s.width)) refl
     where
       go : (t : Bool) → ltb x (2 ^ s.width) ≡ t →
           ask_of (ltb (cond t ((carrying s.width).number_there x) x) (2 ^ s.width)) (says s (cond t ((carrying s.width).number_there x) x)) ≡ ask_of t (says (layer_state carrying s) x)
@@ -107,3 +85,7 @@ module _ (carrying : ℕ → Carrying) (s : DeviceState) where
           ap₂ ask_of (lt-ltb ((carrying s.width).number_there x) (2 ^ s.width) (k.number_stays x h))
           (ap (λ (b : Bool). not s.muted && b) (carried_takes s.width (carrying s.width) k x h s.slots w))
       go false e = ap (λ (t : Bool). ask_of t (says s x)) e
+
+  pub ask_carried : Carries s.width (carrying s.width) → AllByRecursion (SlotWithin s.width) s.slots → (x below : ℕ) (asked said : Result Bool Refusal) → below ≡ number_below carrying s x → asked ≡ ask_answer s below → asked ≡ said →
+      said ≡ ask_answer (layer_state carrying s) x
+  ask_carried k w x below asked said e f was = sym was ∙ f ∙ ap (ask_answer s) e ∙ asked_carried k w x

@@ -32,6 +32,7 @@ impl LineMap for Flip {
         number ^ u64::from(self.marked(width))
     }
 
+    // The way there once more, on a line of its own: the trait asks for both ways, since a map may have another way back.
     fn number_back(&self, width: Width, number: u64) -> u64 {
         self.number_there(width, number)
     }

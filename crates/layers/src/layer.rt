@@ -86,10 +86,8 @@ impl<M: LineMap, D: RowDevice> RowDevice for Layer<M, D> {
     }
 
     fn read(&self, slot: usize) -> Result<Option<Row>, Refusal> {
-        match self.below.read(slot)? {
-            Some(row) => Ok(Some(self.row_above(row))),
-            None => Ok(None),
-        }
+        let held = self.below.read(slot)?;
+        Ok(held.map(|row| self.row_above(row)))
     }
 
     fn mute(&mut self, on: bool) {

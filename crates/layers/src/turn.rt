@@ -21,6 +21,7 @@ impl LineMap for Turn {
         read_backwards(number, width)
     }
 
+    // The way there once more, on a line of its own: the trait asks for both ways, since a map may have another way back.
     fn number_back(&self, width: Width, number: u64) -> u64 {
         self.number_there(width, number)
     }
@@ -41,10 +42,5 @@ fn read_backwards(word: u64, width: Width) -> u64
     ensures value { result ≡ turned (places_of width) word }
     ensures fits { result < 2 ^ 32 }
 {
-    let places = width.places();
-    let mut backwards = 0;
-    for place in 0..places {
-        backwards = backwards * 2 + (word >> place) % 2;
-    }
-    backwards
+    word.reverse_bits() >> (64 - width.places())
 }

@@ -8,7 +8,7 @@ use std::test::Fail;
 
 #[test]
 fn flips_the_marked_places_of_the_width(rt: HostRuntime) -> Result<(), Fail> {
-    let width = Width::new(5)?;
+    let width = Width::try_from(5)?;
     let flip = Flip { mask: 0b1110_0110 };
     assert_eq!(rt; flip.number_there(width, 0b01010), 0b01100);
     assert_eq!(rt; flip.number_back(width, 0b01100), 0b01010);
@@ -22,7 +22,7 @@ fn flips_the_marked_places_of_the_width(rt: HostRuntime) -> Result<(), Fail> {
 
 #[test]
 fn turns_the_places_of_the_width(rt: HostRuntime) -> Result<(), Fail> {
-    let width = Width::new(5)?;
+    let width = Width::try_from(5)?;
     assert_eq!(rt; Turn.number_there(width, 0b00101), 0b10100);
     assert_eq!(rt; Turn.number_back(width, 0b10100), 0b00101);
     // 1-010 to 010-1

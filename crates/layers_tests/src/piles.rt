@@ -13,6 +13,7 @@ use rows::width::Width;
 use std::process::Abort;
 use std::test::Fail;
 
+// As in `device_tests`: only a test may take `Abort`, so no library can lend this.
 // Four places; nothing can be put, emptied or read at the slot of this number and at slot 120, and no wide row put.
 fn refuses<D: RowDevice>(rt: &impl Abort, pile: &mut D, count: usize) {
     assert_eq!(rt; pile.slot_count(), count);
@@ -32,7 +33,7 @@ fn refuses<D: RowDevice>(rt: &impl Abort, pile: &mut D, count: usize) {
 
 #[test]
 fn refusals_come_up_from_a_slot_table(rt: HostRuntime) -> Result<(), Fail> {
-    let width = Width::new(4)?;
+    let width = Width::try_from(4)?;
     let mut records = [SlotRecord::EMPTY; 3];
     let table = SlotTable::new(width, &mut records);
     let mut pile = Layer::new(Flip { mask: 0b1001 }, Layer::new(Turn, table));
@@ -42,7 +43,7 @@ fn refusals_come_up_from_a_slot_table(rt: HostRuntime) -> Result<(), Fail> {
 
 #[test]
 fn refusals_come_up_from_a_column_table(rt: HostRuntime) -> Result<(), Fail> {
-    let width = Width::new(4)?;
+    let width = Width::try_from(4)?;
     let mut pile = Layer::new(
         Turn,
         Layer::new(Flip { mask: 0b0110 }, ColumnTable::new(width, 200)),
@@ -53,7 +54,7 @@ fn refusals_come_up_from_a_column_table(rt: HostRuntime) -> Result<(), Fail> {
 
 #[test]
 fn flip_over_turn_over_a_slot_table(rt: HostRuntime) -> Result<(), Fail> {
-    let width = Width::new(4)?;
+    let width = Width::try_from(4)?;
     let mut records = [SlotRecord::EMPTY; 2];
     let table = SlotTable::new(width, &mut records);
     let mut pile = Layer::new(Flip { mask: 0b1001 }, Layer::new(Turn, table));
