@@ -51,26 +51,26 @@ before_after n x hx = let p = after_cases n x hx in let q = before_cases n (afte
 
 -- an edit makes at most one new begin and one new end
 module _ (n f l : ℕ) (hf : f < 2 ^ n) (hl : l < 2 ^ n) (S : NumberSet) (x : ℕ) (hx : x < 2 ^ n) where
-  added_begin : begins n (edited (Add f l) S) x ≡ true → (begins n S x ≡ true) ⊎ (x ≡ f)
+  added_begin : begins n (edited (Add (record { first = f; last = l })) S) x ≡ true → (begins n S x ≡ true) ⊎ (x ≡ f)
   added_begin b =
-      let out = or_parts (S (before n x)) (in_range f l (before n x)) (begins_out n (edited (Add f l) S) x b) in
-      elim (or_cases (S x) (in_range f l x) (begins_in n (edited (Add f l) S) x b)) [
+      let out = or_parts (S (before n x)) (in_range f l (before n x)) (begins_out n (edited (Add (record { first = f; last = l })) S) x b) in
+      elim (or_cases (S x) (in_range f l x) (begins_in n (edited (Add (record { first = f; last = l })) S) x b)) [
         | inl s ↦ inl (begins_from n S x s out.0)
         | inr i ↦ inr (entered n f l hf hl x hx i out.1)
       ]
 
-  added_end : ends n (edited (Add f l) S) x ≡ true → (ends n S x ≡ true) ⊎ (x ≡ l)
+  added_end : ends n (edited (Add (record { first = f; last = l })) S) x ≡ true → (ends n S x ≡ true) ⊎ (x ≡ l)
   added_end b =
-      let out = or_parts (S (after n x)) (in_range f l (after n x)) (ends_out n (edited (Add f l) S) x b) in
-      elim (or_cases (S x) (in_range f l x) (ends_in n (edited (Add f l) S) x b)) [
+      let out = or_parts (S (after n x)) (in_range f l (after n x)) (ends_out n (edited (Add (record { first = f; last = l })) S) x b) in
+      elim (or_cases (S x) (in_range f l x) (ends_in n (edited (Add (record { first = f; last = l })) S) x b)) [
         | inl s ↦ inl (ends_from n S x s out.0)
         | inr i ↦ inr (left n f l hf hl x hx i out.1)
       ]
 
-  dropped_begin : begins n (edited (Drop f l) S) x ≡ true → (begins n S x ≡ true) ⊎ (x ≡ after n l)
+  dropped_begin : begins n (edited (Drop (record { first = f; last = l })) S) x ≡ true → (begins n S x ≡ true) ⊎ (x ≡ after n l)
   dropped_begin b =
-      let inside = and_parts (S x) (not (in_range f l x)) (begins_in n (edited (Drop f l) S) x b) in
-      elim (and_cases (S (before n x)) (not (in_range f l (before n x))) (begins_out n (edited (Drop f l) S) x b)) [
+      let inside = and_parts (S x) (not (in_range f l x)) (begins_in n (edited (Drop (record { first = f; last = l })) S) x b) in
+      elim (and_cases (S (before n x)) (not (in_range f l (before n x))) (begins_out n (edited (Drop (record { first = f; last = l })) S) x b)) [
         | inl s ↦ inl (begins_from n S x inside.0 s)
         | inr i ↦
             let back = after_before n x hx in
@@ -78,10 +78,10 @@ module _ (n f l : ℕ) (hf : f < 2 ^ n) (hl : l < 2 ^ n) (S : NumberSet) (x : �
             inr (sym back ∙ ap (after n) (left n f l hf hl (before n x) (before_fits n x) (not-false (in_range f l (before n x)) i) o))
       ]
 
-  dropped_end : ends n (edited (Drop f l) S) x ≡ true → (ends n S x ≡ true) ⊎ (x ≡ before n f)
+  dropped_end : ends n (edited (Drop (record { first = f; last = l })) S) x ≡ true → (ends n S x ≡ true) ⊎ (x ≡ before n f)
   dropped_end b =
-      let inside = and_parts (S x) (not (in_range f l x)) (ends_in n (edited (Drop f l) S) x b) in
-      elim (and_cases (S (after n x)) (not (in_range f l (after n x))) (ends_out n (edited (Drop f l) S) x b)) [
+      let inside = and_parts (S x) (not (in_range f l x)) (ends_in n (edited (Drop (record { first = f; last = l })) S) x b) in
+      elim (and_cases (S (after n x)) (not (in_range f l (after n x))) (ends_out n (edited (Drop (record { first = f; last = l })) S) x b)) [
         | inl s ↦ inl (ends_from n S x inside.0 s)
         | inr i ↦
             let back = before_after n x hx in
@@ -124,22 +124,22 @@ module _ (n : ℕ) (S : NumberSet) where
 
 -- for either kind of edit
 pub new_begin : (n : ℕ) (e : Edit) (S : NumberSet) (x : ℕ) → edit_in_width n e ≡ true → x < 2 ^ n → begins n (edited e S) x ≡ true → (begins n S x ≡ true) ⊎ (x ≡ first_candidate n e)
-new_begin n (Add f l) S x w hx b = let p = ends_fit n f l w in added_begin n f l p.0 p.1 S x hx b
-new_begin n (Drop f l) S x w hx b = let p = ends_fit n f l w in dropped_begin n f l p.0 p.1 S x hx b
+new_begin n (Add r) S x w hx b = let p = ends_fit n r.first r.last w in added_begin n r.first r.last p.0 p.1 S x hx b
+new_begin n (Drop r) S x w hx b = let p = ends_fit n r.first r.last w in dropped_begin n r.first r.last p.0 p.1 S x hx b
 
 pub new_end : (n : ℕ) (e : Edit) (S : NumberSet) (x : ℕ) → edit_in_width n e ≡ true → x < 2 ^ n → ends n (edited e S) x ≡ true → (ends n S x ≡ true) ⊎ (x ≡ last_candidate n e)
-new_end n (Add f l) S x w hx b = let p = ends_fit n f l w in added_end n f l p.0 p.1 S x hx b
-new_end n (Drop f l) S x w hx b = let p = ends_fit n f l w in dropped_end n f l p.0 p.1 S x hx b
+new_end n (Add r) S x w hx b = let p = ends_fit n r.first r.last w in added_end n r.first r.last p.0 p.1 S x hx b
+new_end n (Drop r) S x w hx b = let p = ends_fit n r.first r.last w in dropped_end n r.first r.last p.0 p.1 S x hx b
 
 pub first_candidate_fits : (n : ℕ) (e : Edit) → edit_in_width n e ≡ true → first_candidate n e < 2 ^ n
-first_candidate_fits n (Add f l) w = (ends_fit n f l w).0
-first_candidate_fits n (Drop f l) w = after_fits n l
+first_candidate_fits n (Add r) w = (ends_fit n r.first r.last w).0
+first_candidate_fits n (Drop r) w = after_fits n r.last
 
 pub last_candidate_fits : (n : ℕ) (e : Edit) → edit_in_width n e ≡ true → last_candidate n e < 2 ^ n
-last_candidate_fits n (Add f l) w = (ends_fit n f l w).1
-last_candidate_fits n (Drop f l) w = before_fits n f
+last_candidate_fits n (Add r) w = (ends_fit n r.first r.last w).1
+last_candidate_fits n (Drop r) w = before_fits n r.first
 
 -- sets with the same numbers have the same numbers after an edit
 pub edited_same : (e : Edit) (S T : NumberSet) (x : ℕ) → S x ≡ T x → edited e S x ≡ edited e T x
-edited_same (Add f l) S T x h = ap (λ b. b || in_range f l x) h
-edited_same (Drop f l) S T x h = ap (λ b. b && not (in_range f l x)) h
+edited_same (Add r) S T x h = ap (λ b. b || in_range r.first r.last x) h
+edited_same (Drop r) S T x h = ap (λ b. b && not (in_range r.first r.last x)) h

@@ -1,35 +1,23 @@
 -- What an edit of a table answers.
-use Rattle.std.proofs.Common.{◌≡◌, ℕ, ◌-◌, ◌^◌, ◌<◌, ◌≤◌, true, List, [], ◌∷◌, length, take, Ok, Err, sym, refl, ap, ◌∙◌, arith}
-use Rattle.std.proofs.lemmas.List.{length-map, length-take-le, nil_from_length}
+use Rattle.std.proofs.Common.{◌≡◌, ℕ, ◌-◌, ◌^◌, ◌<◌, ◌≤◌, true, List, [], ◌∷◌, length, Ok, Err, refl, ap, ◌∙◌, arith}
+use Rattle.std.proofs.lemmas.List.{length-map}
 use Rattle.covers.specs.Rivals.{NumberSet}
 use Rattle.circle.specs.Runs.{runs}
 use Rattle.rows.specs.declared.refusal.Refusal.TheVariants.{TooManyRuns}
-use Rattle.run_table.specs.declared.run.Run.{Run}
+use Rattle.rows.specs.declared.range.Range.{Range}
 use Rattle.run_table.specs.declared.edit.Edit.{Edit}
 use Rattle.run_table.specs.declared.table.RunTable.{RunTable}
-use Rattle.run_table.specs.Tables.{ranges_of, standing, table_runs}
+use Rattle.run_table.specs.Tables.{ranges_of, table_runs}
 use Rattle.run_table.specs.Edits.{edit_in_width, edited}
 use Rattle.run_table.specs.NewRuns.{adding, new_runs}
 use Rattle.run_table.specs.Answers.{EditAnswered}
 use Rattle.run_table.proofs.EditedRuns.{whole_after, runs_after}
 use Rattle.run_table.proofs.Tables.{table_few}
 
--- the runs that were written
-module _ (n : ℕ) (e : Edit) (R out : List Run) (count : ℕ) (written : take count out ≡ new_runs n e R) (within : count ≤ length out) where
-  pub count_is : length (new_runs n e R) ≡ count
-  count_is = sym (ap length written) ∙ length-take-le count out within
-
-  pub none_written : count ≡ 0 → new_runs n e R ≡ []
-  none_written z = nil_from_length (new_runs n e R) (count_is ∙ z)
-
-  pub some_written : (count ≡ 0 → ⊥) → new_runs n e R ≡ [] → ⊥
-  some_written h q = h (sym count_is ∙ ap length q)
-
 -- the table of a set
-module _ (t : RunTable) (n : ℕ) (e : Edit) (S : NumberSet) (R : List Run) (few : n ≤ 64) (w : edit_in_width n e ≡ true) (stands : R ≡ standing t) (is : table_runs t ≡ runs n S) where
+module _ (t : RunTable) (n : ℕ) (e : Edit) (S : NumberSet) (R : List Range) (few : n ≤ 64) (w : edit_in_width n e ≡ true) (stands : ranges_of R ≡ table_runs t) (is : table_runs t ≡ runs n S) where
   ranges_are : ranges_of R ≡ runs n S
-  unfolding table_runs
-  ranges_are = ap ranges_of stands ∙ is
+  ranges_are = stands ∙ is
 
   with_table : (u : RunTable) → table_runs u ≡ runs n (edited e S) → EditAnswered n e S (Ok u)
   with_table u q = let k = ap length q in let h = table_few u in (q, omega arith)

@@ -11,7 +11,7 @@ use Rattle.circle.proofs.Ascending.{In, Ascending, kept_in}
 use Rattle.circle.proofs.Circle.{before_fits}
 use Rattle.circle.proofs.Stretches.{begins_out}
 use Rattle.circle.proofs.Runs.{are_runs, runs_of_circle, runs_of_candidates, all_or_none, equal_sets}
-use Rattle.run_table.specs.declared.run.Run.{Run}
+use Rattle.rows.specs.declared.range.Range.{Range}
 use Rattle.run_table.specs.declared.edit.Edit.{Edit}
 use Rattle.run_table.specs.declared.edit.Edit.TheVariants.{Add, Drop}
 use Rattle.run_table.specs.Tables.{ranges_of}
@@ -21,11 +21,11 @@ use Rattle.run_table.proofs.Edges.{ends_fit, first_inside, begin_listed, end_lis
 use Rattle.run_table.proofs.Candidates.{has_from_in, candidates_ascend, candidates_below, new_in, old_in}
 use Rattle.run_table.proofs.Nearest.{nearest_end}
 
-firsts_same : (R : List Run) → map (λ r. r.0) (ranges_of R) ≡ firsts_of R
+firsts_same : (R : List Range) → map (λ r. r.0) (ranges_of R) ≡ firsts_of R
 firsts_same [] = refl
 firsts_same (r ∷ R) = ap (λ l. r.first ∷ l) (firsts_same R)
 
-lasts_same : (R : List Run) → map (λ r. r.1) (ranges_of R) ≡ lasts_of R
+lasts_same : (R : List Range) → map (λ r. r.1) (ranges_of R) ≡ lasts_of R
 lasts_same [] = refl
 lasts_same (r ∷ R) = ap (λ l. r.last ∷ l) (lasts_same R)
 
@@ -36,7 +36,7 @@ ranges_from n T lasts [] h = refl
 ranges_from n T lasts (g ∷ l) h = ap₂ (λ (x : ℕ) (k : List (ℕ × ℕ)). (g, x) ∷ k) h.0 (ranges_from n T lasts l h.1)
 
 -- a table that holds the runs of its own set, and an edit in the width
-module _ (n : ℕ) (R : List Run) (e : Edit) (few : n ≤ 64) (w : edit_in_width n e ≡ true) (own : ranges_of R ≡ runs n (in_ranges (ranges_of R))) where
+module _ (n : ℕ) (R : List Range) (e : Edit) (few : n ≤ 64) (w : edit_in_width n e ≡ true) (own : ranges_of R ≡ runs n (in_ranges (ranges_of R))) where
   abbrev old_set : NumberSet
   old_set = in_ranges (ranges_of R)
 
@@ -119,30 +119,30 @@ module _ (n : ℕ) (R : List Run) (e : Edit) (few : n ≤ 64) (w : edit_in_width
       unmapped (x ∷ l) q = let z : ◌≡◌ {A = ℕ} 0 1 = cc in absurd (omega arith)
 
 -- nothing kept after an addition
-circle_left : (n : ℕ) (R : List Run) (e : Edit) → n ≤ 64 → edit_in_width n e ≡ true → ranges_of R ≡ runs n (in_ranges (ranges_of R)) →
+circle_left : (n : ℕ) (R : List Range) (e : Edit) → n ≤ 64 → edit_in_width n e ≡ true → ranges_of R ≡ runs n (in_ranges (ranges_of R)) →
     new_runs n e R ≡ [] → adding e ≡ true → runs n (set_after R e) ≡ (0, 2 ^ n - 1) ∷ []
-circle_left n R (Drop f l) few w own none a = absurd (true≢false (sym a))
-circle_left n R (Add f l) few w own none a =
-    let p = ends_fit n f l w in
-    let in_set = or_right (in_ranges (ranges_of R) f) (in_range f l f) (first_inside n f l p.0 p.1) in
-    let same = all_or_none n (set_after R (Add f l)) (nowhere_begun n R (Add f l) few w own (no_kept n R (Add f l) few w own none)) in
-    runs_of_circle n (set_after R (Add f l)) (λ x hx. same x hx ∙ sym (same f p.0) ∙ in_set)
+circle_left n R (Drop r) few w own none a = absurd (true≢false (sym a))
+circle_left n R (Add r) few w own none a =
+    let p = ends_fit n r.first r.last w in
+    let in_set = or_right (in_ranges (ranges_of R) r.first) (in_range r.first r.last r.first) (first_inside n r.first r.last p.0 p.1) in
+    let same = all_or_none n (set_after R (Add r)) (nowhere_begun n R (Add r) few w own (no_kept n R (Add r) few w own none)) in
+    runs_of_circle n (set_after R (Add r)) (λ x hx. same x hx ∙ sym (same r.first p.0) ∙ in_set)
 
 -- and in every other case
-runs_left : (n : ℕ) (R : List Run) (e : Edit) → n ≤ 64 → edit_in_width n e ≡ true → ranges_of R ≡ runs n (in_ranges (ranges_of R)) →
+runs_left : (n : ℕ) (R : List Range) (e : Edit) → n ≤ 64 → edit_in_width n e ≡ true → ranges_of R ≡ runs n (in_ranges (ranges_of R)) →
     (new_runs n e R ≡ [] → adding e ≡ true → ⊥) → ranges_of (new_runs n e R) ≡ runs n (set_after R e)
-runs_left n R (Add f l) few w own some = go (kept n R (Add f l) few w own) refl
+runs_left n R (Add r) few w own some = go (kept n R (Add r) few w own) refl
   where
-    go : (k : List ℕ) → kept n R (Add f l) few w own ≡ k → ranges_of (new_runs n (Add f l) R) ≡ runs n (set_after R (Add f l))
-    go [] q = absurd (some (none_run n R (Add f l) few w own q) refl)
-    go (g ∷ k) q = not_whole n R (Add f l) few w own (before n g) (before_fits n g) (begins_out n (set_after R (Add f l)) g (first_kept n R (Add f l) few w own g k q))
-runs_left n R (Drop f l) few w own some =
-    let p = ends_fit n f l w in
-    not_whole n R (Drop f l) few w own f p.0
-    (and_right (in_ranges (ranges_of R) f) (not (in_range f l f)) (not_from_true (in_range f l f) (first_inside n f l p.0 p.1)))
+    go : (k : List ℕ) → kept n R (Add r) few w own ≡ k → ranges_of (new_runs n (Add r) R) ≡ runs n (set_after R (Add r))
+    go [] q = absurd (some (none_run n R (Add r) few w own q) refl)
+    go (g ∷ k) q = not_whole n R (Add r) few w own (before n g) (before_fits n g) (begins_out n (set_after R (Add r)) g (first_kept n R (Add r) few w own g k q))
+runs_left n R (Drop r) few w own some =
+    let p = ends_fit n r.first r.last w in
+    not_whole n R (Drop r) few w own r.first p.0
+    (and_right (in_ranges (ranges_of R) r.first) (not (in_range r.first r.last r.first)) (not_from_true (in_range r.first r.last r.first) (first_inside n r.first r.last p.0 p.1)))
 
 -- the table of any set, and an edit in the width
-module _ (n : ℕ) (R : List Run) (e : Edit) (S : NumberSet) (few : n ≤ 64) (w : edit_in_width n e ≡ true) (is : ranges_of R ≡ runs n S) where
+module _ (n : ℕ) (R : List Range) (e : Edit) (S : NumberSet) (few : n ≤ 64) (w : edit_in_width n e ≡ true) (is : ranges_of R ≡ runs n S) where
   same_set : (x : ℕ) → x < 2 ^ n → in_ranges (ranges_of R) x ≡ S x
   same_set x hx = ap (λ l. in_ranges l x) is ∙ (are_runs n S).covering x hx
 

@@ -1,7 +1,8 @@
 -- The rows of a table's runs.
-use Rattle.std.proofs.Common.{◌≡◌, ℕ, zero, suc, ◌+◌, ◌-◌, ◌^◌, ◌<◌, ◌≤◌, Bool, true, false, cond, ◌&&◌, leb, List, [], ◌∷◌, ◌++◌, length, get_or, take, drop, Ok, Err, Result, sym, refl, ap, ◌∙◌, ap₂, arith}
+use Rattle.std.proofs.Common.{◌≡◌, ℕ, zero, suc, ◌+◌, ◌-◌, ◌^◌, ◌<◌, ◌≤◌, Bool, true, false, cond, ◌&&◌, leb, List, [], ◌∷◌, ◌++◌, length, get_or, take, drop, Ok, Err, Result, IfOk, is_err, map, sym, refl, ap, ◌∙◌, ap₂, arith}
 use borrow.Rule.Slice.PartMut.{put_mid}
 use Rattle.std.specs.List.{AllByRecursion}
+use Rattle.std.specs.Result.{result_unwrap_or}
 use Rattle.std.proofs.lemmas.List.{length-append, take_more, map_push, flat_map_more, append-nil, drop_all, drop-drop, length-drop, take_all, take_rest}
 use Rattle.std.proofs.lemmas.Slice.{put_mid-paste}
 use Rattle.std.proofs.lemmas.Bool.{lt-ltb, le-leb, both_ways}
@@ -16,11 +17,11 @@ use Rattle.circle.proofs.Runs.{are_runs}
 use Rattle.rows.specs.declared.refusal.Refusal.{Refusal}
 use Rattle.rows.specs.declared.refusal.Refusal.TheVariants.{NumberOutsideWidth, MemoryTooShort}
 use Rattle.rows.specs.declared.row_words.RowWords.{RowWords}
-use Rattle.rows.specs.Memory.{written}
+use Rattle.rows.specs.Memory.{words_of, written}
 use Rattle.rows.specs.Widths.{in_width}
 use Rattle.ranges.specs.RangeRows.{range_answer}
 use Rattle.covers.proofs.WitnessCounts.{range_proper}
-use Rattle.run_table.specs.declared.run.Run.{Run}
+use Rattle.rows.specs.declared.range.Range.{Range}
 use Rattle.run_table.specs.Tables.{ranges_of}
 use Rattle.run_table.specs.Answers.{rows_in_width, rows_of_ranges, rows_of_set}
 use Rattle.run_table.proofs.Tables.{no_run}
@@ -49,7 +50,7 @@ in_width_few n r a b = go (in_width n r.0 r.1)
     go false = omega arith
 
 -- one run more
-pub rows_more : (n : ℕ) (R : List Run) (i : ℕ) → i < length R →
+pub rows_more : (n : ℕ) (R : List Range) (i : ℕ) → i < length R →
     rows_of_ranges n (ranges_of (take (i + 1) R)) ≡ rows_of_ranges n (ranges_of (take i R)) ++ rows_in_width n ((get_or R i no_run).first, (get_or R i no_run).last)
 rows_more n R i h =
     ap (λ k. rows_of_ranges n (ranges_of k)) (take_more R i no_run h) ∙
@@ -57,7 +58,7 @@ rows_more n R i h =
     sym (flat_map_more (rows_in_width n) [] (ranges_of (take i R)) ((get_or R i no_run).first, (get_or R i no_run).last))
 
 -- the first runs have no more rows than all
-pub rows_front : (n : ℕ) (R : List Run) (i : ℕ) → length (rows_of_ranges n (ranges_of (take i R))) ≤ length (rows_of_ranges n (ranges_of R))
+pub rows_front : (n : ℕ) (R : List Range) (i : ℕ) → length (rows_of_ranges n (ranges_of (take i R))) ≤ length (rows_of_ranges n (ranges_of R))
 rows_front n [] zero = omega arith
 rows_front n [] (suc i) = omega arith
 rows_front n (r ∷ R) zero = omega arith
@@ -69,7 +70,7 @@ rows_front n (r ∷ R) (suc i) =
 
 -- what the call on a range answered, by whether it is in the width
 module _ (n f l places : ℕ) where
-  pub granted : (k : ℕ) → Ok k ≡ range_answer n f l places → (rows_in_width n (f, l) ≡ rows_of_range n f l) × (k ≡ length (rows_of_range n f l))
+  granted : (k : ℕ) → Ok k ≡ range_answer n f l places → (rows_in_width n (f, l) ≡ rows_of_range n f l) × (k ≡ length (rows_of_range n f l))
   unfolding rows_in_width
   granted k e = go (in_width n f l) (leb (length (rows_of_range n f l)) places) e
     where
@@ -79,7 +80,7 @@ module _ (n f l places : ℕ) where
       go true false q = let z : ◌≡◌ {A = ℕ} 0 1 = cc in absurd (omega arith)
       go false t q = let z : ◌≡◌ {A = ℕ} 0 1 = cc in absurd (omega arith)
 
-  pub refused : (x : Refusal) → Err x ≡ range_answer n f l places → length (rows_in_width n (f, l)) ≤ places → rows_in_width n (f, l) ≡ []
+  refused : (x : Refusal) → Err x ≡ range_answer n f l places → length (rows_in_width n (f, l)) ≤ places → rows_in_width n (f, l) ≡ []
   unfolding rows_in_width
   refused x e h = go (in_width n f l) (leb (length (rows_of_range n f l)) places) refl e h
     where
@@ -90,8 +91,19 @@ module _ (n f l places : ℕ) where
       go true false w q k = absurd (both_ways (leb (length (rows_of_range n f l)) places) w (le-leb (length (rows_of_range n f l)) places k))
       go false t w q k = refl
 
+-- what the call on a range wrote and counted; a refused one counts as none
+pub told : (n f l : ℕ) (m new : List RowWords) (r : Result ℕ Refusal) → r ≡ range_answer n f l (length m) →
+    IfOk r (λ k. new ≡ map words_of (rows_of_range n f l) ++ drop k m) → (is_err r ≡ true → new ≡ m) → length (rows_in_width n (f, l)) ≤ length m →
+    (new ≡ map words_of (rows_in_width n (f, l)) ++ drop (result_unwrap_or r 0) m) × (result_unwrap_or r 0 ≡ length (rows_in_width n (f, l)))
+told n f l m new (Ok k) e w u h =
+    let g = granted n f l (length m) k e in
+    (w ∙ ap (λ (rows : List Symbols). map words_of rows ++ drop k m) (sym g.0), g.1 ∙ ap length (sym g.0))
+told n f l m new (Err x) e w u h =
+    let none = refused n f l (length m) x e h in
+    (u refl ∙ ap (λ (rows : List Symbols). map words_of rows ++ m) (sym none), ap length (sym none))
+
 -- one run more has no more rows than all
-pub rows_room : (n : ℕ) (R : List Run) (i : ℕ) → i < length R →
+pub rows_room : (n : ℕ) (R : List Range) (i : ℕ) → i < length R →
     length (rows_of_ranges n (ranges_of (take i R))) + length (rows_in_width n ((get_or R i no_run).first, (get_or R i no_run).last)) ≤ length (rows_of_ranges n (ranges_of R))
 rows_room n R i h =
     let a = ap length (rows_more n R i h) in

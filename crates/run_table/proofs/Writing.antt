@@ -1,47 +1,44 @@
 -- Runs written one after the other for a list of candidates.
-use Rattle.std.proofs.Common.{◌≡◌, ℕ, suc, ◌+◌, ◌<◌, ◌≤◌, min, Bool, true, false, cond, ltb, List, [], ◌∷◌, ◌++◌, map, length, get_or, take, drop, filter, sym, ap, ◌∙◌, subst, ap₂, arith}
+use Rattle.std.proofs.Common.{◌≡◌, ℕ, suc, ◌+◌, ◌<◌, ◌≤◌, min, Bool, true, false, cond, ltb, List, [], ◌∷◌, ◌++◌, map, length, get_or, take, drop, filter, sym, ap, ◌∙◌, ap₂, arith}
 use Rattle.std.proofs.lemmas.List.Elements.{filter-append, filter_more}
 use Rattle.std.proofs.lemmas.List.{append-nil, append_assoc, length-append, length-map, length_push, get_or-map, map-append, length-take, take_all, take-append-drop}
 use Rattle.circle.specs.Runs.{begins}
-use Rattle.run_table.specs.declared.run.Run.{Run}
+use Rattle.rows.specs.declared.range.Range.{Range}
 use Rattle.run_table.specs.declared.edit.Edit.{Edit}
 use Rattle.run_table.specs.NewRuns.{firsts_of, new_lasts, run_from, runs_at, set_after}
 use Rattle.run_table.proofs.Candidates.{not_both}
 use Rattle.run_table.proofs.Tables.{no_run}
 
-module _ (n : ℕ) (e : Edit) (R : List Run) where
+-- how many a filter keeps
+pub kept_few : (p : ℕ → Bool) (l : List ℕ) → length (filter p l) ≤ length l
+kept_few p [] = omega arith
+kept_few p (x ∷ l) = go (p x) (kept_few p l)
+  where
+    go : (t : Bool) → length (filter p l) ≤ length l → length (cond t (x ∷ filter p l) (filter p l)) ≤ suc (length l)
+    go true h = omega arith
+    go false h = omega arith
+
+module _ (n : ℕ) (e : Edit) (R : List Range) where
   pub runs_at_one : (f : ℕ) → begins n (set_after R e) f ≡ true → runs_at n e R (f ∷ []) ≡ run_from n (set_after R e) (new_lasts n e R) f ∷ []
   runs_at_one f b = ap (λ t. map (run_from n (set_after R e) (new_lasts n e R)) (cond t (f ∷ []) [])) b
-
-  pub runs_at_none : (f : ℕ) → begins n (set_after R e) f ≡ false → runs_at n e R (f ∷ []) ≡ []
-  runs_at_none f b = ap (λ t. map (run_from n (set_after R e) (new_lasts n e R)) (cond t (f ∷ []) [])) b
 
   runs_at_append : (l k : List ℕ) → runs_at n e R (l ++ k) ≡ runs_at n e R l ++ runs_at n e R k
   runs_at_append l k =
       ap (map (run_from n (set_after R e) (new_lasts n e R))) (filter-append (begins n (set_after R e)) l k) ∙
       map-append (run_from n (set_after R e) (new_lasts n e R)) (filter (begins n (set_after R e)) l) (filter (begins n (set_after R e)) k)
 
-  -- the first places of `out` hold the runs that begin at one of the candidates
-  pub record Written (out : List Run) (next : ℕ) (candidates : List ℕ) : Type 0 where
-    pub runs : take next out ≡ runs_at n e R candidates
-    pub few : next ≤ length candidates
-
   -- one candidate more
-  pub written_more : (out more : List Run) (next r : ℕ) (l : List ℕ) (f : ℕ) → Written out next l → take r more ≡ take next out ++ runs_at n e R (f ∷ []) → r ≤ next + 1 →
-      Written more r (l ++ f ∷ [])
-  written_more out more next r l f w q h =
-      let k = length_push l f in
-      let m = w.few in
-      record { runs = q ∙ ap (λ x. x ++ runs_at n e R (f ∷ [])) w.runs ∙ sym (runs_at_append l (f ∷ [])); few = omega arith }
+  pub runs_at_more : (out more : List Range) (l : List ℕ) (f : ℕ) → out ≡ runs_at n e R l → more ≡ out ++ runs_at n e R (f ∷ []) → more ≡ runs_at n e R (l ++ f ∷ [])
+  runs_at_more out more l f w q = q ∙ ap (λ x. x ++ runs_at n e R (f ∷ [])) w ∙ sym (runs_at_append l (f ∷ []))
 
-  pub written_as : {out more : List Run} {next r : ℕ} {l : List ℕ} → out ≡ more → next ≡ r → Written more r l → Written out next l
-  written_as {out} {more} {next} {r} {l} p q w = subst (λ k. Written out k l) (sym q) (subst (λ k. Written k r l) (sym p) w)
-
-  pub written_same : (out : List Run) (next : ℕ) (l k : List ℕ) → l ≡ k → Written out next l → Written out next k
-  written_same out next l k q w = subst (Written out next) q w
+  pub runs_at_few : (l : List ℕ) → length (runs_at n e R l) ≤ length l
+  runs_at_few l =
+      let k = kept_few (begins n (set_after R e)) l in
+      let m = length-map (filter (begins n (set_after R e)) l) (run_from n (set_after R e) (new_lasts n e R)) in
+      omega arith
 
 -- a filter, one element on
-module _ (p : ℕ → Bool) (R : List Run) (i : ℕ) (h : i < length R) where
+module _ (p : ℕ → Bool) (R : List Range) (i : ℕ) (h : i < length R) where
   at_first : get_or (firsts_of R) i 0 ≡ (get_or R i no_run).first
   at_first = get_or-map (λ r. r.first) R i no_run 0 h
 
@@ -59,16 +56,7 @@ module _ (p : ℕ → Bool) (R : List Run) (i : ℕ) (h : i < length R) where
       ap (λ (t : Bool). filter p (take i (firsts_of R)) ++ cond t (get_or (firsts_of R) i 0 ∷ []) []) (ap p at_first ∙ b) ∙
       append-nil (filter p (take i (firsts_of R)))
 
--- how many a filter keeps
-pub kept_few : (p : ℕ → Bool) (l : List ℕ) → length (filter p l) ≤ length l
-kept_few p [] = omega arith
-kept_few p (x ∷ l) = go (p x) (kept_few p l)
-  where
-    go : (t : Bool) → length (filter p l) ≤ length l → length (cond t (x ∷ filter p l) (filter p l)) ≤ suc (length l)
-    go true h = omega arith
-    go false h = omega arith
-
-pub front_few : (p : ℕ → Bool) (i : ℕ) (R : List Run) → length (filter p (take i (firsts_of R))) ≤ min i (length R)
+pub front_few : (p : ℕ → Bool) (i : ℕ) (R : List Range) → length (filter p (take i (firsts_of R))) ≤ min i (length R)
 front_few p i R =
     let a = kept_few p (take i (firsts_of R)) in
     let b = length-take i (firsts_of R) in
@@ -76,7 +64,7 @@ front_few p i R =
     omega arith
 
 -- the whole list is its front
-pub all_firsts : (R : List Run) (i : ℕ) → length R ≤ i → take i (firsts_of R) ≡ firsts_of R
+pub all_firsts : (R : List Range) (i : ℕ) → length R ≤ i → take i (firsts_of R) ≡ firsts_of R
 all_firsts R i h = let e = length-map R (λ r. r.first) in take_all i (firsts_of R) (omega arith)
 
 pub kept_front : (p : ℕ → Bool) (i : ℕ) (l : List ℕ) → length (filter p (take i l)) ≤ length (filter p l)
@@ -87,7 +75,7 @@ kept_front p i l =
     omega arith
 
 -- the candidates so far are at most one more than the runs
-module _ (x : ℕ) (R : List Run) where
+module _ (x : ℕ) (R : List Range) where
   abbrev pub so_far : ℕ → List ℕ
   so_far i = filter (λ f. ltb f x) (firsts_of R) ++ x ∷ filter (λ f. ltb x f) (take i (firsts_of R))
 

@@ -2,7 +2,7 @@
 use Rattle.std.specs.Prelude.{ℕ, ◌+◌, ◌-◌, ◌%◌, ◌^◌, min, Bool, true, false, cond, List, [], ◌∷◌, ◌++◌, map, filter, nat_lt}
 use Rattle.covers.specs.Rivals.{NumberSet, in_ranges}
 use Rattle.circle.specs.Runs.{before, after, begins, ends}
-use Rattle.run_table.specs.declared.run.Run.{Run}
+use Rattle.rows.specs.declared.range.Range.{Range}
 use Rattle.run_table.specs.declared.edit.Edit.{Edit}
 use Rattle.run_table.specs.declared.edit.Edit.TheVariants.{Add, Drop}
 use Rattle.run_table.specs.Edits.{edited}
@@ -10,25 +10,25 @@ use Rattle.run_table.specs.Tables.{ranges_of}
 
 -- the edit adds its range
 abbrev pub adding : Edit → Bool
-adding (Add f l) = true
-adding (Drop f l) = false
+adding (Add range) = true
+adding (Drop range) = false
 
 -- where a run may begin after the edit and did not before
 abbrev pub first_candidate : ℕ → Edit → ℕ
-first_candidate n (Add f l) = f
-first_candidate n (Drop f l) = after n l
+first_candidate n (Add range) = range.first
+first_candidate n (Drop range) = after n range.last
 
 -- where a run may end after the edit and did not before
 abbrev pub last_candidate : ℕ → Edit → ℕ
-last_candidate n (Add f l) = l
-last_candidate n (Drop f l) = before n f
+last_candidate n (Add range) = range.last
+last_candidate n (Drop range) = before n range.first
 
 -- how many steps up the circle lead from one number to another: 2 ^ 64 steps are whole turns
 abbrev pub steps : ℕ → ℕ → ℕ → ℕ
 steps n from to = (to + 2 ^ 64 - from) % 2 ^ n
 
 -- the set after the edit, by the runs before it
-abbrev pub set_after : List Run → Edit → NumberSet
+abbrev pub set_after : List Range → Edit → NumberSet
 set_after runs e = edited e (in_ranges (ranges_of runs))
 
 -- the least d of the numbers that pass the test, or what is given if none is less
@@ -41,17 +41,17 @@ unfoldable pub steps_to_end : ℕ → NumberSet → List ℕ → ℕ → ℕ
 steps_to_end n T lasts g = least_of (ends n T) (steps n g) (2 ^ n) lasts
 
 -- the run from g to the nearest of these ends
-abbrev pub run_from : ℕ → NumberSet → List ℕ → ℕ → Run
+abbrev pub run_from : ℕ → NumberSet → List ℕ → ℕ → Range
 run_from n T lasts g = record { first = g; last = (g + steps_to_end n T lasts g) % 2 ^ n }
 
-abbrev pub firsts_of : List Run → List ℕ
+abbrev pub firsts_of : List Range → List ℕ
 firsts_of runs = map (λ r. r.first) runs
 
-abbrev pub lasts_of : List Run → List ℕ
+abbrev pub lasts_of : List Range → List ℕ
 lasts_of runs = map (λ r. r.last) runs
 
 -- where a run may end after the edit
-abbrev pub new_lasts : ℕ → Edit → List Run → List ℕ
+abbrev pub new_lasts : ℕ → Edit → List Range → List ℕ
 new_lasts n e runs = last_candidate n e ∷ lasts_of runs
 
 -- where a run may begin after the edit, ascending: the old firsts below x, x, and the old firsts above it
@@ -59,9 +59,9 @@ abbrev pub below_and_above : ℕ → List ℕ → List ℕ
 below_and_above x firsts = filter (λ f. nat_lt f x) firsts ++ x ∷ filter (λ f. nat_lt x f) firsts
 
 -- the runs of the set after the edit that begin at one of these numbers
-abbrev pub runs_at : ℕ → Edit → List Run → List ℕ → List Run
+abbrev pub runs_at : ℕ → Edit → List Range → List ℕ → List Range
 runs_at n e runs firsts = map (run_from n (set_after runs e) (new_lasts n e runs)) (filter (begins n (set_after runs e)) firsts)
 
 -- those that begin at any of the candidates
-unfoldable pub new_runs : ℕ → Edit → List Run → List Run
+unfoldable pub new_runs : ℕ → Edit → List Range → List Range
 new_runs n e runs = runs_at n e runs (below_and_above (first_candidate n e) (firsts_of runs))

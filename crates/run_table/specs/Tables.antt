@@ -2,15 +2,15 @@
 use Rattle.std.specs.Prelude.{◌≡◌, ℕ, min, cond, List, map, length, take, Some, None, Option, nat_lt, slice_index_or}
 use Rattle.covers.specs.Rivals.{NumberSet}
 use Rattle.circle.specs.Runs.{runs}
-use Rattle.run_table.specs.declared.run.Run.{Run}
+use Rattle.rows.specs.declared.range.Range.{Range}
 use Rattle.run_table.specs.declared.table.RunTable.{RunTable}
 
 -- a run by its first and last number
-abbrev pub ranges_of : List Run → List (ℕ × ℕ)
+abbrev pub ranges_of : List Range → List (ℕ × ℕ)
 ranges_of runs = map (λ r. (r.first, r.last)) runs
 
 -- the entries that stand
-abbrev pub standing : RunTable → List Run
+abbrev pub standing : RunTable → List Range
 standing t = take (min t.count 16) t.runs
 
 -- the runs that the table holds

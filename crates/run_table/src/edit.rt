@@ -5,14 +5,14 @@ ghost use Rattle.run_table.specs.Edits.{edit_in_width, edited};
 ghost use Rattle.run_table.specs.NewRuns.{first_candidate, last_candidate, adding};
 
 use super::circle_steps::{number_after, number_before};
-use super::run::Run;
+use rows::range::Range;
 use rows::width::Width;
 
 // A range to add to the set, or to drop from it.
 #[derive(Clone, Copy, PartialEq, Eq, Debug)]
 pub enum Edit {
-    Add { first: u64, last: u64 },
-    Drop { first: u64, last: u64 },
+    Add(Range),
+    Drop(Range),
 }
 
 impl Edit {
@@ -20,21 +20,15 @@ impl Edit {
     pub fn in_width(self, width: Width) -> bool
         ensures value { result ≡ edit_in_width (places_of width) self }
     {
-        let limit = width.limit();
         match self {
-            Edit::Add { first, last } | Edit::Drop { first, last } => {
-                first < limit && last < limit
-            }
+            Edit::Add(range) | Edit::Drop(range) => range.is_within(width),
         }
     }
 
     pub(super) fn adds(self) -> bool
         ensures value { result ≡ adding self }
     {
-        match self {
-            Edit::Add { .. } => true,
-            Edit::Drop { .. } => false,
-        }
+        matches!(self, Edit::Add(_))
     }
 
     // Whether a number is in the set after the edit, where `before` says whether it was.
@@ -42,8 +36,8 @@ impl Edit {
         ensures value { result ≡ edited self (λ _. before) number }
     {
         match self {
-            Edit::Add { first, last } => before || Run { first, last }.contains(number),
-            Edit::Drop { first, last } => before && !Run { first, last }.contains(number),
+            Edit::Add(range) => before || range.contains(number),
+            Edit::Drop(range) => before && !range.contains(number),
         }
     }
 
@@ -52,8 +46,8 @@ impl Edit {
         ensures value { result ≡ first_candidate (places_of width) self }
     {
         match self {
-            Edit::Add { first, .. } => first,
-            Edit::Drop { last, .. } => number_after(width, last),
+            Edit::Add(range) => range.first,
+            Edit::Drop(range) => number_after(width, range.last),
         }
     }
 
@@ -62,8 +56,8 @@ impl Edit {
         ensures value { result ≡ last_candidate (places_of width) self }
     {
         match self {
-            Edit::Add { last, .. } => last,
-            Edit::Drop { first, .. } => number_before(width, first),
+            Edit::Add(range) => range.last,
+            Edit::Drop(range) => number_before(width, range.first),
         }
     }
 }

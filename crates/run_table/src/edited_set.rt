@@ -1,18 +1,25 @@
 // The set after an edit, known by the runs before it.
-ghost use Rattle.std.specs.Prelude.{◌≡◌, ◌+◌, ◌<◌, ◌≤◌, min, [], ◌∷◌, ◌++◌, length, take, if◌then◌else◌};
+ghost use Rattle.std.specs.Prelude.{◌≡◌, ◌+◌, ◌<◌, ◌≤◌, min, [], ◌∷◌, ◌++◌, length, if◌then◌else◌};
 ghost use Rattle.circle.specs.Runs.{begins, ends};
+ghost use Rattle.arrayvec.specs.ArrayVec.{array_vec_len};
 ghost use Rattle.rows.specs.Widths.{places_of};
 ghost use Rattle.run_table.specs.NewRuns.{new_lasts, new_runs, run_from, runs_at, set_after, steps, steps_to_end};
 
 use super::circle_steps::{number_after, number_before, steps_between};
 use super::edit::Edit;
-use super::run::{Run, any_contains};
+use super::run::any_contains;
+use super::table::MOST_RUNS;
+use arrayvec::ArrayVec;
+use rows::range::Range;
 use rows::width::Width;
+
+// An edit makes at most one run more.
+const MOST_AFTER_EDIT: usize = MOST_RUNS + 1;
 
 // The runs before the edit, and the edit.
 #[derive(Clone, Copy)]
 pub(super) struct EditedSet<'a> {
-    pub(super) runs: &'a [Run],
+    pub(super) runs: &'a [Range],
     pub(super) edit: Edit,
     pub(super) width: Width,
 }
@@ -63,49 +70,45 @@ impl EditedSet<'_> {
     }
 
     // The run that begins at a number: it goes to the nearest end.
-    fn run_from(self, first: u64) -> Run
+    fn run_from(self, first: u64) -> Range
         ensures value { result ≡ run_from (places_of self.entry.width) (set_after self.entry.runs.now self.entry.edit) (new_lasts (places_of self.entry.width) self.entry.edit self.entry.runs.now) first }
     {
         let steps = self.steps_to_end(first);
-        Run {
+        Range {
             first,
             last: first.wrapping_add(steps) % self.width.limit(),
         }
     }
 
-    // Writes the run that begins at the number, if one does, and answers the index after it.
-    fn keep(self, first: u64, out: &mut [Run], at: usize) -> usize
-        requires room { at < length out.old }
-        ensures runs { take result out.new ≡ take at out.old ++ runs_at (places_of self.entry.width) self.entry.edit self.entry.runs.now (first ∷ []) }
-        ensures at_most_one { result ≤ at + 1 }
+    // Appends the run that begins at the number, if one does.
+    fn keep(self, first: u64, out: &mut ArrayVec<Range, MOST_AFTER_EDIT>)
+        requires room { array_vec_len out.old < 17 }
+        ensures runs { out.new.items ≡ out.old.items ++ runs_at (places_of self.entry.width) self.entry.edit self.entry.runs.now (first ∷ []) }
+        ensures at_most_one { array_vec_len out.new ≤ array_vec_len out.old + 1 }
     {
         if self.begins(first) {
-            out[at] = self.run_from(first);
-            at + 1
-        } else {
-            at
+            out.push(self.run_from(first));
         }
     }
 
-    // Writes the runs of the set in ascending order, and answers how many they are.
-    pub(super) fn write_runs(self, out: &mut [Run]) -> usize
-        requires room { length self.runs.now < length out.old }
-        ensures runs { take result out.new ≡ new_runs (places_of self.entry.width) self.entry.edit self.entry.runs.now }
-        ensures within { result ≤ length out.new }
+    // The runs of the set in ascending order.
+    pub(super) fn new_runs(self) -> ArrayVec<Range, MOST_AFTER_EDIT>
+        requires few { length self.runs.now ≤ 16 }
+        ensures runs { result.items ≡ new_runs (places_of self.entry.width) self.entry.edit self.entry.runs.now }
     {
+        let mut out = ArrayVec::new();
         let new = self.edit.new_first(self.width);
-        let mut next = 0;
         for run in self.runs {
             if run.first < new {
-                next = self.keep(run.first, out, next);
+                self.keep(run.first, &mut out);
             }
         }
-        next = self.keep(new, out, next);
+        self.keep(new, &mut out);
         for run in self.runs {
             if new < run.first {
-                next = self.keep(run.first, out, next);
+                self.keep(run.first, &mut out);
             }
         }
-        next
+        out
     }
 }

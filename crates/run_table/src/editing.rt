@@ -9,13 +9,9 @@ ghost use Rattle.run_table.specs.Tables.{TableOf};
 
 use super::edit::Edit;
 use super::edited_set::EditedSet;
-use super::run::Run;
 use super::table::{MOST_RUNS, RunTable};
 use rows::refusal::Refusal;
 use rows::width::Width;
-
-// An edit makes at most one run more.
-const MOST_AFTER_EDIT: usize = 17;
 
 impl RunTable {
     // The table of the set after the edit, where this is the table of a set at the width; of another table the answer is
@@ -28,19 +24,18 @@ impl RunTable {
             return Err(Refusal::NumberOutsideWidth);
         }
         let set = EditedSet {
-            runs: self.standing(),
+            runs: self.runs(),
             edit,
             width,
         };
-        let mut runs = [Run { first: 0, last: 0 }; MOST_AFTER_EDIT];
-        let count = set.write_runs(&mut runs);
-        if count > MOST_RUNS {
+        let runs = set.new_runs();
+        if runs.len() > MOST_RUNS {
             return Err(Refusal::TooManyRuns);
         }
-        if count == 0 && edit.adds() {
+        if runs.is_empty() && edit.adds() {
             // no run begins anywhere, and the set is not empty
             return Ok(RunTable::whole(width));
         }
-        Ok(RunTable::holding(&runs[0..count]))
+        Ok(RunTable::holding(runs.as_slice()))
     }
 }

@@ -5,6 +5,6 @@ mod circle_steps;
 pub mod edit;
 mod edited_set;
 mod editing;
-pub mod run;
+mod run;
 pub mod table;
 mod table_rows;

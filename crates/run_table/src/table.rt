@@ -1,26 +1,30 @@
 // The table of runs.
-ghost use Rattle.std.specs.Prelude.{◌≡◌, ℕ, ◌-◌, ◌^◌, ◌<◌, ◌≤◌, true, false, [], ◌∷◌, length, take};
-ghost use Rattle.covers.specs.Rivals.{NumberSet, in_ranges};
-ghost use Rattle.rows.specs.Widths.{places_of};
-ghost use Rattle.run_table.specs.Tables.{TableOf, ranges_of, run_at, standing, table_runs};
+ghost use Rattle.std.specs.Prelude.{◌≡◌, ℕ, ◌-◌, ◌^◌, ◌<◌, ◌≤◌, true, false, [], ◌∷◌, length};
 
-use super::run::{Run, any_contains};
+use super::run::any_contains;
+use rows::range::Range;
 use rows::width::Width;
 
 // The most runs of a table.
 pub(super) const MOST_RUNS: usize = 16;
 
 // What stands where no run does.
-const NO_RUN: Run = Run { first: 0, last: 0 };
+const NO_RUN: Range = Range { first: 0, last: 0 };
 
 // At most 16 runs, of which the first `count` stand. Every value is a table: a higher count is read as 16.
+// An array and a count, since the table is a plain value that is copied: the kit's `ArrayVec` is not `Copy`. No ghost
+// field, since a filter over lent memory that has such a field could not be a type argument.
 #[derive(Clone, Copy)]
 pub struct RunTable {
-    runs: [Run; MOST_RUNS],
+    runs: [Range; MOST_RUNS],
     count: usize,
 }
 
 impl RunTable {
+    ghost use Rattle.covers.specs.Rivals.{NumberSet, in_ranges};
+    ghost use Rattle.rows.specs.Widths.{places_of};
+    ghost use Rattle.run_table.specs.Tables.{TableOf, ranges_of, run_at, table_runs};
+
     // No runs: the table of the empty set.
     pub fn empty() -> RunTable
         ensures runs { table_runs result ≡ [] }
@@ -37,7 +41,7 @@ impl RunTable {
         ensures runs { table_runs result ≡ (0, 2 ^ places_of width - 1) ∷ [] }
         ensures of_every_number { TableOf (places_of width) (λ _. true) result }
     {
-        let circle = Run {
+        let circle = Range {
             first: 0,
             last: width.limit() - 1,
         };
@@ -52,20 +56,15 @@ impl RunTable {
         ensures value { result ≡ length (table_runs self.now) }
         ensures high_bound { result ≤ 16 }
     {
-        self.standing().len()
+        self.runs().len()
     }
 
     // Both ends of the run at an index, or nothing beyond the last.
     pub fn get(&self, i: usize) -> Option<(u64, u64)>
         ensures value { result ≡ run_at (table_runs self.now) i }
     {
-        let runs = self.standing();
-        if i < runs.len() {
-            let run = runs[i];
-            Some((run.first, run.last))
-        } else {
-            None
-        }
+        // a pair of numbers, as the subject has it
+        self.runs().get(i).map(|run| (run.first, run.last))
     }
 
     // Whether one of the runs has the number.
@@ -73,11 +72,11 @@ impl RunTable {
         ensures value { result ≡ in_ranges (table_runs self.now) number }
         ensures in_set { (n : ℕ) (S : NumberSet) → TableOf n S self.now → number < 2 ^ n → result ≡ S number }
     {
-        any_contains(self.standing(), number)
+        any_contains(self.runs(), number)
     }
 
     // The table of these runs.
-    pub(super) fn holding(runs: &[Run]) -> RunTable
+    pub(super) fn holding(runs: &[Range]) -> RunTable
         requires few { length runs.now ≤ 16 }
         ensures runs { table_runs result ≡ ranges_of runs.now }
     {
@@ -90,16 +89,10 @@ impl RunTable {
     }
 
     // The runs that stand.
-    pub(super) fn standing(&self) -> &[Run]
-        ensures value { result.now ≡ standing self.now }
+    pub fn runs(&self) -> &[Range]
+        ensures value { ranges_of result.now ≡ table_runs self.now }
+        ensures few { length result.now ≤ 16 }
     {
-        front(&self.runs, self.count.min(MOST_RUNS))
+        &self.runs[0..self.count.min(MOST_RUNS)]
     }
-}
-
-// So many runs from the start, or all.
-fn front(runs: &[Run], count: usize) -> &[Run]
-    ensures value { result.now ≡ take count runs.now }
-{
-    &runs[0..count.min(runs.len())]
 }

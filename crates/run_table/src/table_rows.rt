@@ -7,15 +7,12 @@ ghost use Rattle.rows.specs.Widths.{places_of};
 ghost use Rattle.run_table.specs.Answers.{rows_answer, rows_in_width, rows_of_ranges, rows_of_set};
 ghost use Rattle.run_table.specs.Tables.{TableOf, ranges_of, table_runs};
 
-use super::run::Run;
 use super::table::RunTable;
-use ranges::range::rows_of_range;
+use ranges::range::{MOST_ROWS, rows_of_range};
+use rows::range::Range;
 use rows::refusal::Refusal;
 use rows::row_words::RowWords;
 use rows::width::Width;
-
-// The most rows that a run of any width needs.
-const MOST_ROWS: usize = 62;
 
 impl RunTable {
     // How many rows the runs have together; one with an end outside the width has none.
@@ -24,9 +21,9 @@ impl RunTable {
         ensures of_set { (S : NumberSet) → TableOf (places_of width) S self.now → result ≡ length (rows_of_set (places_of width) S) }
         ensures high_bound { result ≤ 992 }
     {
-        let mut scratch = [RowWords { value: 0, care: 0 }; MOST_ROWS];
+        let mut scratch = [RowWords::default(); MOST_ROWS];
         let mut count = 0;
-        for run in self.standing() {
+        for run in self.runs() {
             count += write_rows_of_run(width, *run, &mut scratch);
         }
         count
@@ -46,13 +43,13 @@ impl RunTable {
         if count > memory.len() {
             return Err(Refusal::MemoryTooShort);
         }
-        write_rows_of(width, self.standing(), memory);
+        write_rows_of(width, self.runs(), memory);
         Ok(count)
     }
 }
 
 // Writes the rows of the runs at the start of memory.
-fn write_rows_of(width: Width, runs: &[Run], memory: &mut [RowWords])
+fn write_rows_of(width: Width, runs: &[Range], memory: &mut [RowWords])
     requires room { length (rows_of_ranges (places_of width) (ranges_of runs.now)) ≤ length memory.old }
     ensures rows { memory.new ≡ map words_of (rows_of_ranges (places_of width) (ranges_of runs.now)) ++ drop (length (rows_of_ranges (places_of width) (ranges_of runs.now))) memory.old }
 {
@@ -63,13 +60,10 @@ fn write_rows_of(width: Width, runs: &[Run], memory: &mut [RowWords])
 }
 
 // Writes the rows of the run at the start of memory, none if an end is no number of the width.
-fn write_rows_of_run(width: Width, run: Run, memory: &mut [RowWords]) -> usize
+fn write_rows_of_run(width: Width, run: Range, memory: &mut [RowWords]) -> usize
     requires room { length (rows_in_width (places_of width) (run.first, run.last)) ≤ length memory.old }
     ensures rows { memory.new ≡ map words_of (rows_in_width (places_of width) (run.first, run.last)) ++ drop result memory.old }
     ensures count { result ≡ length (rows_in_width (places_of width) (run.first, run.last)) }
 {
-    match rows_of_range(width, run.first, run.last, memory) {
-        Ok(count) => count,
-        Err(_) => 0,
-    }
+    rows_of_range(width, run, memory).unwrap_or(0)
 }

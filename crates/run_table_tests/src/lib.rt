@@ -3,6 +3,7 @@
 
 #[cfg(test)]
 mod tests {
+    use rows::range::Range;
     use rows::refusal::Refusal;
     use rows::row_words::RowWords;
     use rows::width::Width;
@@ -11,16 +12,16 @@ mod tests {
     use std::test::Fail;
 
     fn add(table: RunTable, width: Width, first: u64, last: u64) -> Result<RunTable, Refusal> {
-        table.after_edit(width, Edit::Add { first, last })
+        table.after_edit(width, Edit::Add(Range { first, last }))
     }
 
     fn take(table: RunTable, width: Width, first: u64, last: u64) -> Result<RunTable, Refusal> {
-        table.after_edit(width, Edit::Drop { first, last })
+        table.after_edit(width, Edit::Drop(Range { first, last }))
     }
 
     #[test]
     fn joined_across_the_highest_number(rt: HostRuntime) -> Result<(), Fail> {
-        let width = Width::new(3)?;
+        let width = Width::try_from(3)?;
         let table = add(RunTable::empty(), width, 6, 7)?;
         assert_eq!(rt; table.get(0), Some((6, 7)));
         let table = add(table, width, 0, 1)?;
@@ -33,7 +34,7 @@ mod tests {
 
     #[test]
     fn the_circle_by_pieces(rt: HostRuntime) -> Result<(), Fail> {
-        let width = Width::new(3)?;
+        let width = Width::try_from(3)?;
         let table = add(RunTable::empty(), width, 5, 1)?;
         let table = add(table, width, 3, 3)?;
         assert_eq!(rt; table.get(0), Some((3, 3)));
@@ -47,7 +48,7 @@ mod tests {
 
     #[test]
     fn dropped_from_the_circle(rt: HostRuntime) -> Result<(), Fail> {
-        let width = Width::new(3)?;
+        let width = Width::try_from(3)?;
         let table = take(RunTable::whole(width), width, 7, 7)?;
         assert_eq!(rt; table.get(0), Some((0, 6)));
         let table = take(RunTable::whole(width), width, 3, 3)?;
@@ -59,7 +60,7 @@ mod tests {
 
     #[test]
     fn the_middle_of_a_run(rt: HostRuntime) -> Result<(), Fail> {
-        let width = Width::new(32)?;
+        let width = Width::try_from(32)?;
         let table = add(RunTable::empty(), width, 4_294_967_290, 9)?;
         let table = take(table, width, 4_294_967_294, 3)?;
         assert_eq!(rt; table.len(), 2);
@@ -70,7 +71,7 @@ mod tests {
 
     #[test]
     fn seventeen_runs_are_refused(rt: HostRuntime) -> Result<(), Fail> {
-        let width = Width::new(6)?;
+        let width = Width::try_from(6)?;
         let mut table = RunTable::empty();
         for i in 0..16 {
             table = add(table, width, 2 * i, 2 * i)?;
@@ -88,7 +89,7 @@ mod tests {
 
     #[test]
     fn ends_outside_the_width(rt: HostRuntime) -> Result<(), Fail> {
-        let width = Width::new(3)?;
+        let width = Width::try_from(3)?;
         match add(RunTable::empty(), width, 0, 8) {
             Ok(_) => Err(Fail::new("granted")),
             Err(refusal) => {
@@ -100,7 +101,7 @@ mod tests {
 
     #[test]
     fn rows_of_all_runs(rt: HostRuntime) -> Result<(), Fail> {
-        let width = Width::new(3)?;
+        let width = Width::try_from(3)?;
         let table = add(add(RunTable::empty(), width, 1, 2)?, width, 4, 5)?;
         let old = RowWords { value: 7, care: 7 };
         let mut memory = [old; 4];

@@ -1,27 +1,17 @@
-use Rattle.std.proofs.Common.{◌+◌, Bool, ◌||◌, get_or, drop, sym, ap, ◌∙◌}
-use Rattle.std.proofs.lemmas.Bool.{or_left}
-use Rattle.covers.specs.Rivals.{in_range, in_ranges}
-use Rattle.run_table.specs.Tables.{ranges_of}
-use Rattle.run_table.proofs.Tables.{no_run, ranges_more, ranges_all}
+use Rattle.std.proofs.Common.{◌≡◌, true, false, ◌∙◌, rules, tests}
+use Rattle.std.proofs.lemmas.Iterator.{cases_from_any, YieldsList-from_slice}
+use Rattle.covers.specs.Rivals.{in_range}
+use Rattle.covers.proofs.Searches.{any_is}
+use Rattle.run_table.proofs.Tables.{any_in_ranges}
 use Rattle.run_table.proofs.run.any_contains.Goals as goal
 
-pub returns-then-contains : goal.returns-then-contains
-returns-then-contains c =
+pub returns : goal.returns
+returns c =
     let R = c.args.runs.now in
-    let i = c.loop-run.run-index in
     let x = c.args.number in
     record {
-      value =
-          sym (or_left (in_range (get_or R i no_run).first (get_or R i no_run).last x) (in_ranges (ranges_of (drop (i + 1) R)) x) (sym c.if-contains.ensures.value)) ∙
-          sym (ranges_more R i x c.loop-run-test.true) ∙ c.loop-run.invariant;
+      value = any_is (λ r. in_range r.first r.last x) c.any.result R
+          (cases_from_any _ _ _ (λ r. in_range r.first r.last x ≡ true) (λ r. in_range r.first r.last x ≡ false) c.any.ensures.ran (YieldsList-from_slice R cc)
+          (λ r q k. search (rules, tests)) (λ r q k. search (rules, tests))) ∙
+          any_in_ranges R x;
     }
-
-pub loop-run-preserved : goal.loop-run-preserved
-loop-run-preserved c =
-    let R = c.args.runs.now in
-    let i = c.loop-run.run-index in
-    let x = c.args.number in
-    ap (λ (t : Bool). t || in_ranges (ranges_of (drop (i + 1) R)) x) c.if-contains.ensures.value ∙ sym (ranges_more R i x c.loop-run-test.true) ∙ c.loop-run.invariant
-
-pub returns : goal.returns
-returns c = record { value = sym (ranges_all c.args.runs.now c.loop-run.run-index c.args.number c.loop-run-test.false) ∙ c.loop-run.invariant }

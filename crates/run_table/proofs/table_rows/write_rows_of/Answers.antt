@@ -4,7 +4,7 @@ use Rattle.rows.specs.Memory.{written}
 use Rattle.rows.specs.Memory.{words_of}
 use Rattle.rows.specs.Widths.{places_of}
 use Rattle.rows.proofs.Writing.{written_after}
-use Rattle.run_table.specs.declared.run.Run.{Run}
+use Rattle.rows.specs.declared.range.Range.{Range}
 use Rattle.run_table.specs.Answers.{rows_in_width, rows_of_ranges}
 use Rattle.run_table.specs.Tables.{ranges_of}
 use Rattle.run_table.proofs.Tables.{no_run}
@@ -92,7 +92,7 @@ returns c =
     let n = places_of c.args.width in
     let R = c.args.runs.now in
     let rows = rows_of_ranges n (ranges_of R) in
-    let all = ap (λ (k : List Run). map words_of (rows_of_ranges n (ranges_of k))) (take_all c.loop-run.run-index R c.loop-run-test.false) in
+    let all = ap (λ (k : List Range). map words_of (rows_of_ranges n (ranges_of k))) (take_all c.loop-run.run-index R c.loop-run-test.false) in
     record {
       rows = c.loop-run.invariant.0 ∙ ap (written c.args.memory.now 0) all ∙
           ap (λ (k : ℕ). map words_of rows ++ drop k c.args.memory.now) (zero-add (length (map words_of rows)) ∙ length-map rows words_of);

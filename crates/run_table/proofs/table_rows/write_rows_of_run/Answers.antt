@@ -1,27 +1,18 @@
-use Rattle.std.proofs.Common.{List, ◌++◌, map, length, drop, sym, refl, ap, ◌∙◌}
-use Rattle.covers.specs.Symbols.{Symbols}
+use Rattle.std.proofs.Common.{ℕ, ◌++◌, map, drop, sym, ap, ◌∙◌}
 use Rattle.rows.specs.Memory.{words_of}
 use Rattle.rows.specs.Widths.{places_of}
-use Rattle.run_table.proofs.TableRows.{granted, refused}
+use Rattle.run_table.specs.Answers.{rows_in_width}
+use Rattle.run_table.proofs.TableRows.{told}
 use Rattle.run_table.proofs.table_rows.write_rows_of_run.Goals as goal
 
-pub returns-in-Ok : goal.returns-in-Ok
-returns-in-Ok c =
+pub returns : goal.returns
+returns c =
     let n = places_of c.args.width in
+    let run = c.args.run in
+    let call = c.rows_of_range in
     let m = c.args.memory.now in
-    let k = c.in-Ok.count in
-    let g = granted n c.args.run.first c.args.run.last (length m) k c.in-Ok.ensures.answer in
+    let is = told n run.first run.last m call.new.memory call.result call.ensures.answer call.ensures.written call.ensures.untouched_when_refused c.requires.room in
     record {
-      rows = c.in-Ok.ensures.written ∙ ap (λ (l : List Symbols). map words_of l ++ drop k m) (sym g.0);
-      count = g.1 ∙ ap length (sym g.0);
-    }
-
-pub returns-in-Err : goal.returns-in-Err
-returns-in-Err c =
-    let n = places_of c.args.width in
-    let m = c.args.memory.now in
-    let none = refused n c.args.run.first c.args.run.last (length m) _ c.in-Err.ensures.answer c.requires.room in
-    record {
-      rows = c.in-Err.ensures.untouched_when_refused refl ∙ ap (λ (l : List Symbols). map words_of l ++ m) (sym none);
-      count = ap length (sym none);
+      rows = is.0 ∙ ap (λ (k : ℕ). map words_of (rows_in_width n (run.first, run.last)) ++ drop k m) (sym c.unwrap_or.ensures);
+      count = c.unwrap_or.ensures ∙ is.1;
     }

@@ -1,12 +1,12 @@
 use Rattle.std.proofs.Common.{◌≡◌, ℕ, ◌+◌, ◌%◌, ◌^◌, ap, ◌∙◌, ap₂, arith}
 use Rattle.rows.specs.Widths.{places_of}
 use Rattle.rows.proofs.Widths.{places_most}
-use Rattle.run_table.specs.declared.run.Run.{Run}
+use Rattle.rows.specs.declared.range.Range.{Range}
 use Rattle.run_table.specs.NewRuns.{new_lasts, set_after, steps_to_end}
 use Rattle.run_table.proofs.Steps.{wrapped}
 use Rattle.run_table.proofs.edited_set.EditedSet.run_from.Goals as goal
 
-ends_at : (g : ℕ) {x y : ℕ} → x ≡ y → ◌≡◌ {A = Run} (record { first = g; last = x }) (record { first = g; last = y })
+ends_at : (g : ℕ) {x y : ℕ} → x ≡ y → ◌≡◌ {A = Range} (record { first = g; last = x }) (record { first = g; last = y })
 ends_at g e = ap (λ (k : ℕ). record { first = g; last = k }) e
 
 pub returns : goal.returns

@@ -7,17 +7,15 @@ use Rattle.rows.specs.Memory.{words_of}
 use Rattle.ranges.specs.RangeRows.{rows_in}
 use Rattle.rows.specs.Widths.{places_of}
 use Rattle.ranges.proofs.RunLists.{rows_read}
-use Rattle.run_table.specs.declared.run.Run.{Run}
 use Rattle.run_table.specs.Answers.{rows_of_ranges, rows_of_set}
-use Rattle.run_table.specs.Tables.{TableOf, ranges_of, table_runs}
+use Rattle.run_table.specs.Tables.{TableOf, table_runs}
 use Rattle.run_table.proofs.TableRows.{rows_of_its_runs, set_rows_long}
 use Rattle.run_table.proofs.table.RunTable.write_rows.Goals as goal
 
 pub write_rows_of-requires : goal.write_rows_of-requires
-unfolding table_runs
 write_rows_of-requires c =
     let k = c.row_count-count.ensures.value in
-    let e = ap (λ (R : List Run). length (rows_of_ranges (places_of c.args.width) (ranges_of R))) c.standing.ensures.value in
+    let e = ap (λ (R : List (ℕ × ℕ)). length (rows_of_ranges (places_of c.args.width) R)) c.runs.ensures.value in
     record { room = omega arith }
 
 pub returns-then-count-memory : goal.returns-then-count-memory
@@ -33,7 +31,6 @@ returns-then-count-memory c =
     }
 
 pub returns : goal.returns
-unfolding table_runs
 returns c =
     let n = places_of c.args.width in
     let t = c.args.self.now in
@@ -43,7 +40,7 @@ returns c =
     let e = c.row_count-count.ensures.value in
     let all : c.write_rows_of.new.memory ≡ map words_of rows ++ drop k m =
     c.write_rows_of.ensures.rows ∙
-    ap (λ (R : List Run). map words_of (rows_of_ranges n (ranges_of R)) ++ drop (length (rows_of_ranges n (ranges_of R))) m) c.standing.ensures.value ∙
+    ap (λ (R : List (ℕ × ℕ)). map words_of (rows_of_ranges n R) ++ drop (length (rows_of_ranges n R)) m) c.runs.ensures.value ∙
     ap (λ (j : ℕ). map words_of rows ++ drop j m) (sym e) in
     let back : (S : NumberSet) → TableOf n S t → rows_in n k c.write_rows_of.new.memory ≡ rows_of_set n S =
     λ S q. ap (rows_in n k) (all ∙ ap (λ (l : List Symbols). map words_of l ++ drop k m) (rows_of_its_runs n S (table_runs t) q)) ∙
