@@ -73,7 +73,7 @@ module _ (b : Ledger) (token : ℕ) (e : Edit) (fits : token_fits b token ≡ tr
           absurd (omega arith)
 
 -- a device has as many slots as its ledger knows
-pub slots_known : {D : Type 0} (d : Ghosts D) (f : Filter D) (b : Ledger) → StandsFor d f b → length (d.state f.device).slots ≡ b.slots
+pub slots_known : {D : Type 0} (d : Ghosts D) (f : Filter D d) (b : Ledger) → StandsFor d f b → length (d.state f.device).slots ≡ b.slots
 slots_known d f b s = ap length s.slots ∙ placed_length b.slots (ledger_rows b) s.fit
 
 -- the runs of a table are proper

@@ -1,11 +1,14 @@
 -- The rows of several runs placed one after the other.
 use Rattle.std.proofs.Common.{◌≡◌, ℕ, zero, suc, ◌+◌, ◌-◌, ◌<◌, ◌≤◌, List, [], ◌∷◌, ◌++◌, map, length, get_or, take, drop, replicate, None, sym, refl, ap, ◌∙◌, ap₂, append-nil, le_of_suc-le-suc, not-suc-le-zero, arith}
 use Rattle.std.specs.List.{AllByRecursion}
-use Rattle.std.proofs.lemmas.List.{append_assoc, length-map, length-append, map-append, take-append-drop, take_at, take_more}
+use Rattle.std.proofs.lemmas.List.{get_or-map, append_assoc, length-map, length-append, map-append, take-append-drop, take_at, take_more}
 use Rattle.covers.specs.Symbols.{Symbols}
 use Rattle.covers.specs.Rules.{rows_of_run, rows_of_runs, rows_of_range}
 use Rattle.covers.specs.Theorems.{Run}
+use Rattle.rows.specs.declared.range.Range.{Range}
 use Rattle.rows.specs.Memory.{written}
+use Rattle.run_table.specs.Tables.{ranges_of}
+use Rattle.run_table.proofs.Tables.{no_run}
 use Rattle.covers.proofs.WitnessCounts.{range_proper}
 use Rattle.rows.proofs.Writing.{written_join, length_written}
 use Rattle.device.specs.States.{Slot, DeviceState}
@@ -34,6 +37,13 @@ pub run_at_proper : (n : ℕ) (rs : List (ℕ × ℕ)) (i : ℕ) → AllByRecurs
 run_at_proper n [] i h k = absurd (not-suc-le-zero k)
 run_at_proper n (r ∷ rs) zero h k = h.0
 run_at_proper n (r ∷ rs) (suc i) h k = run_at_proper n rs i h.1 (le_of_suc-le-suc k)
+
+-- the run at an index, in the table and in the list that the table lends
+pub run_lent : (rs : List (ℕ × ℕ)) (R : List Range) (i : ℕ) → ranges_of R ≡ rs → i < length R → get_or rs i (0, 0) ≡ ((get_or R i no_run).first, (get_or R i no_run).last)
+run_lent rs R i e h = ap (λ l. get_or l i (0, 0)) (sym e) ∙ get_or-map (λ r. (r.first, r.last)) R i no_run (0, 0) h
+
+pub runs_lent : (rs : List (ℕ × ℕ)) (R : List Range) → ranges_of R ≡ rs → length R ≡ length rs
+runs_lent rs R e = sym (length-map R (λ r. (r.first, r.last))) ∙ ap length e
 
 -- rows in slots, and rows after them
 pub slots_join : (s : DeviceState) (done more : List Symbols) → length done ≤ length s.slots →

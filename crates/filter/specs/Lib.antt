@@ -3,4 +3,5 @@ pub mod Placement
 pub mod SlotReports
 pub mod Compared
 pub mod Holds
+pub mod Standing
 pub mod StandsFor

@@ -33,7 +33,7 @@ impl<D: RowDevice> Filter<D> {
         self.device.read(slot)
     }
 
-    // Both ends of a run of the held numbers, or nothing beyond the last.
+    // Both ends of a run of the held numbers, as a pair, or nothing beyond the last.
     pub fn report_run(&self, index: usize) -> Option<(u64, u64)>
         ensures answer { (b : Ledger) → StandsFor D.RowDevice self.now b → result ≡ run_answer b index }
     {

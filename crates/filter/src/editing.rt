@@ -9,30 +9,32 @@ use super::filter::Filter;
 use super::hold_token::HoldToken;
 use super::placing::place_runs;
 use device::device::RowDevice;
+use rows::range::Range;
 use rows::refusal::Refusal;
 use run_table::edit::Edit;
 
 impl<D: RowDevice> Filter<D> {
     // The held numbers gain the range; answers how many rows they need.
-    pub fn add(&mut self, token: &HoldToken, first: u64, last: u64) -> Result<usize, Refusal>
-        ensures step { (b : Ledger) → StandsFor D.RowDevice self.old b → (result ≡ edit_answer b token.now.tag (Add first last)) × StandsFor D.RowDevice self.new (after_edit b token.now.tag (Add first last)) }
+    pub fn add(&mut self, token: &HoldToken, range: Range) -> Result<usize, Refusal>
+        ensures step { (b : Ledger) → StandsFor D.RowDevice self.old b → (result ≡ edit_answer b token.now.tag (Add range)) × StandsFor D.RowDevice self.new (after_edit b token.now.tag (Add range)) }
         ensures untouched_when_refused { is_err result ≡ true → self.new ≡ self.old }
         ensures hold_stays { SameHold self.old self.new }
     {
-        self.edit(token, Edit::Add { first, last })
+        self.edit(token, Edit::Add(range))
     }
 
     // The held numbers lose the range; answers how many rows they need.
-    pub fn drop(&mut self, token: &HoldToken, first: u64, last: u64) -> Result<usize, Refusal>
-        ensures step { (b : Ledger) → StandsFor D.RowDevice self.old b → (result ≡ edit_answer b token.now.tag (Drop first last)) × StandsFor D.RowDevice self.new (after_edit b token.now.tag (Drop first last)) }
+    pub fn drop(&mut self, token: &HoldToken, range: Range) -> Result<usize, Refusal>
+        ensures step { (b : Ledger) → StandsFor D.RowDevice self.old b → (result ≡ edit_answer b token.now.tag (Drop range)) × StandsFor D.RowDevice self.new (after_edit b token.now.tag (Drop range)) }
         ensures untouched_when_refused { is_err result ≡ true → self.new ≡ self.old }
         ensures hold_stays { SameHold self.old self.new }
     {
-        self.edit(token, Edit::Drop { first, last })
+        self.edit(token, Edit::Drop(range))
     }
 
+    // The held numbers after the edit; answers how many rows they need.
     // Everything that can refuse the edit is known before the device is written.
-    fn edit(&mut self, token: &HoldToken, edit: Edit) -> Result<usize, Refusal>
+    pub fn edit(&mut self, token: &HoldToken, edit: Edit) -> Result<usize, Refusal>
         ensures step { (b : Ledger) → StandsFor D.RowDevice self.old b → (result ≡ edit_answer b token.now.tag edit) × StandsFor D.RowDevice self.new (after_edit b token.now.tag edit) }
         ensures untouched_when_refused { is_err result ≡ true → self.new ≡ self.old }
         ensures hold_stays { SameHold self.old self.new }

@@ -1,4 +1,7 @@
 // The filter.
+ghost use Rattle.filter.specs.Ledger.{Ledger};
+ghost use Rattle.filter.specs.Standing.{Standing};
+
 use device::device::RowDevice;
 use run_table::table::RunTable;
 
@@ -9,4 +12,6 @@ pub struct Filter<D: RowDevice> {
     pub(super) runs: RunTable,
     pub(super) held: bool,
     pub(super) tag: u64,
+    // it stands for a ledger, whatever was called
+    ghost stands: { ∥ ((b : Ledger) × Standing (D.RowDevice.state device) runs held tag b) ∥₁ },
 }

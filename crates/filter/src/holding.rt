@@ -1,5 +1,5 @@
 // Holding and releasing a filter.
-ghost use Rattle.std.specs.Prelude.{◌≡◌, true, is_err, Ok};
+ghost use Rattle.std.specs.Prelude.{◌≡◌, true, not, ◌&&◌, ◌==◌, is_err, Ok};
 ghost use Rattle.filter.specs.Ledger.{Ledger, hold_answer, after_hold, release_answer, after_release};
 ghost use Rattle.filter.specs.StandsFor.{StandsFor};
 ghost use Rattle.filter.specs.Compared.{tag_of, refusal_of, HandedBack};
@@ -31,6 +31,7 @@ impl<D: RowDevice> Filter<D> {
         ensures step { (b : Ledger) → StandsFor D.RowDevice self.old b → (refusal_of result ≡ release_answer b token.tag) × StandsFor D.RowDevice self.new (after_release b token.tag) }
         ensures untouched_when_refused { is_err result ≡ true → self.new ≡ self.old }
         ensures handed_back_when_refused { HandedBack token result }
+        ensures refused_unless_it_fits { is_err result ≡ not (self.old.held && token.tag == self.old.tag) }
         ensures granted { TokenOf self.old token → result ≡ Ok tt }
     {
         if !self.held || token.tag != self.tag {

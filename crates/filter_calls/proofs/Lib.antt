@@ -1,4 +1,3 @@
 pub mod Told
 pub mod ToldInFull
-pub mod Plays
 pub mod Kept

@@ -1,7 +1,7 @@
 // Two filters over different devices, given the same calls.
 ghost use Rattle.std.specs.Prelude.{◌≡◌, false, length};
 ghost use Rattle.filter_calls.specs.Promises.{Promise};
-ghost use Rattle.filter_calls.specs.Replays.{calls_of};
+ghost use Rattle.device.specs.Exchanges.{calls_of};
 
 use super::call::FilterExchange;
 use super::closing::replay_and_close;

@@ -1,6 +1,5 @@
 // Another filter, held for the token of its tag.
-ghost use Rattle.std.specs.Prelude.{◌≡◌};
-ghost use Rattle.filter.specs.StandsFor.{TokenFits};
+ghost use Rattle.std.specs.Prelude.{◌≡◌, true};
 
 use device::device::RowDevice;
 use filter::filter::Filter;
@@ -10,28 +9,29 @@ use filter::hold_token::HoldToken;
 pub(super) struct HeldFilter<D: RowDevice> {
     pub(super) filter: Filter<D>,
     pub(super) token: HoldToken,
+    ghost held: { filter.held ≡ true },
+    ghost fits: { token.tag ≡ filter.tag },
 }
 
-// Opens a filter with this tag, and holds it.
-pub(super) fn hold_another<D: RowDevice>(device: D, tag: u64) -> HeldFilter<D>
-    ensures tag { result.token.tag ≡ tag }
-    ensures fits { TokenFits D.RowDevice result.filter result.token }
-{
-    let mut filter = Filter::open(device, tag);
-    match filter.hold() {
-        Ok(token) => HeldFilter { filter, token },
-        Err(_) => unreachable(),
+impl<D: RowDevice> HeldFilter<D> {
+    // Opens a filter with this tag, and holds it.
+    pub(super) fn open(device: D, tag: u64) -> HeldFilter<D>
+        ensures tag { result.token.tag ≡ tag }
+    {
+        let mut filter = Filter::open(device, tag);
+        match filter.hold() {
+            Ok(token) => HeldFilter { filter, token },
+            Err(_) => unreachable(),
+        }
     }
-}
 
-// Releases the filter with its token, and gives its device back.
-pub(super) fn let_go<D: RowDevice>(held: HeldFilter<D>) -> D
-    requires fits { TokenFits D.RowDevice held.filter held.token }
-{
-    let HeldFilter { filter, token } = held;
-    let mut filter = filter;
-    match filter.release(token) {
-        Ok(()) => filter.into_device(),
-        Err(_) => unreachable(),
+    // Releases the filter with its token, and gives its device back.
+    pub(super) fn let_go(self) -> D {
+        let HeldFilter { filter, token } = self;
+        let mut filter = filter;
+        match filter.release(token) {
+            Ok(()) => filter.into_device(),
+            Err(_) => unreachable(),
+        }
     }
 }

@@ -5,4 +5,5 @@ pub mod alike;
 pub mod call;
 pub mod closing;
 mod foreign;
+mod player;
 pub mod replay;

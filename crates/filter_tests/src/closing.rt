@@ -11,8 +11,8 @@ use std::test::Fail;
 
 #[test]
 fn a_filter_closed_while_held_hears_again(rt: HostRuntime) -> Result<(), Fail> {
-    let device = ColumnTable::new(Width::new(4)?, 2);
-    let mut exchanges = [asked(FilterCall::Hold), asked(add(8, 11))];
+    let device = ColumnTable::new(Width::try_from(4)?, 2);
+    let mut exchanges = [FilterCall::Hold, add(8, 11)].map(asked);
     let device = replay_and_close(device, TAG, &mut exchanges);
     assert_eq!(rt; device.ask(9), Ok(true));
     Ok(())
@@ -20,10 +20,8 @@ fn a_filter_closed_while_held_hears_again(rt: HostRuntime) -> Result<(), Fail> {
 
 #[test]
 fn sixteen_runs_have_a_row_each(rt: HostRuntime) -> Result<(), Fail> {
-    let device = ColumnTable::new(Width::new(6)?, 120);
-    let mut exchanges = [asked(FilterCall::Hold); 20];
-    seventeen_runs(&mut exchanges);
-    let device = replay_and_close(device, TAG, &mut exchanges);
+    let device = ColumnTable::new(Width::try_from(6)?, 120);
+    let device = replay_and_close(device, TAG, &mut seventeen_runs());
     assert_eq!(rt; device.read(15), Ok(Some(Row::new(48, 0b111111))));
     assert_eq!(rt; device.read(16), Ok(None));
     Ok(())

@@ -8,8 +8,6 @@ mod closing;
 #[cfg(test)]
 mod edits;
 #[cfg(test)]
-mod finish;
-#[cfg(test)]
 mod piles;
 #[cfg(test)]
 mod tokens;

@@ -1,5 +1,5 @@
 // The same through a pile of layers.
-use super::calls::{TAG, add, asked, drop};
+use super::calls::{TAG, add, asked, drop, refused, run};
 use device::column_table::ColumnTable;
 use device::device::RowDevice;
 use filter_calls::alike::answer_alike;
@@ -21,24 +21,22 @@ fn pile(width: Width, slots: usize) -> Layer<Flip, Layer<Turn, ColumnTable>> {
 
 #[test]
 fn a_pile_answers_as_a_table_does(rt: HostRuntime) -> Result<(), Fail> {
-    let width = Width::new(4)?;
+    let width = Width::try_from(4)?;
     let mut exchanges = [
-        asked(FilterCall::Hold),
-        asked(add(12, 15)),
-        asked(add(0, 1)),
-        asked(add(5, 5)),
-        asked(FilterCall::ReportRun { index: 0 }),
-        asked(FilterCall::ReportSlot { slot: 1 }),
-    ];
+        FilterCall::Hold,
+        add(12, 15),
+        add(0, 1),
+        add(5, 5),
+        FilterCall::ReportRun { index: 0 },
+        FilterCall::ReportSlot { slot: 1 },
+    ]
+    .map(asked);
     let mut beside = exchanges;
     let table = ColumnTable::new(width, 2);
     let (_, table) = answer_alike(pile(width, 2), table, TAG, &mut exchanges, &mut beside);
-    assert_eq!(rt; exchanges[2].answer, FilterAnswer::Rows(2));
-    assert_eq!(rt;
-        exchanges[3].answer,
-        FilterAnswer::Refused(Refusal::TooManyRows)
-    );
-    assert_eq!(rt; exchanges[4].answer, FilterAnswer::Run(Some((12, 1))));
+    assert_eq!(rt; exchanges[2].answer, Ok(FilterAnswer::Rows(2)));
+    assert_eq!(rt; exchanges[3].answer, refused(Refusal::TooManyRows));
+    assert_eq!(rt; exchanges[4].answer, run(12, 1));
     assert_eq!(rt; exchanges[5].answer, beside[5].answer);
     assert_eq!(rt; table.read(1), Ok(Some(Row::new(0b0000, 0b1110))));
     Ok(())
@@ -46,16 +44,17 @@ fn a_pile_answers_as_a_table_does(rt: HostRuntime) -> Result<(), Fail> {
 
 #[test]
 fn rows_lie_carried_beneath_a_pile(rt: HostRuntime) -> Result<(), Fail> {
-    let width = Width::new(4)?;
+    let width = Width::try_from(4)?;
     let mut exchanges = [
-        asked(FilterCall::Hold),
-        asked(add(0, 15)),
-        asked(drop(2, 11)),
-        asked(FilterCall::ReportSlot { slot: 0 }),
-    ];
+        FilterCall::Hold,
+        add(0, 15),
+        drop(2, 11),
+        FilterCall::ReportSlot { slot: 0 },
+    ]
+    .map(asked);
     let pile = replay_and_close(pile(width, 3), TAG, &mut exchanges);
     let on_top = FilterAnswer::Slot(Some(Row::new(0b1100, 0b1100)));
-    assert_eq!(rt; exchanges[3].answer, on_top);
+    assert_eq!(rt; exchanges[3].answer, Ok(on_top));
     assert_eq!(rt; pile.ask(12), Ok(true));
     assert_eq!(rt; pile.ask(2), Ok(false));
     let (_, turn) = pile.into_parts();

@@ -8,10 +8,10 @@ use Rattle.filter.specs.Placement.{slot_with, with_slots}
 use Rattle.filter.proofs.placing.place_runs.Given as goal
 
 -- the rows of the runs so far are placed
-abbrev pub invariant-loop-i : goal.invariant-loop-i
-invariant-loop-i g l =
-    (l.next ≤ 62 * l.i) ×
+abbrev pub invariant-loop-run : goal.invariant-loop-run
+invariant-loop-run g l =
+    (l.next ≤ 62 * l.run-index) ×
     (places_of l.width ≡ (g.D.RowDevice.state l.initial.device).width → AllByRecursion (λ r. Run (places_of l.width) r.0 r.1) (table_runs l.runs) →
     length (rows_of_runs (places_of l.width) (table_runs l.runs)) ≤ length (g.D.RowDevice.state l.initial.device).slots →
-    (g.D.RowDevice.state l.device ≡ with_slots (g.D.RowDevice.state l.initial.device) 0 (map slot_with (rows_of_runs (places_of l.width) (take l.i (table_runs l.runs))))) ×
-    (l.next ≡ length (rows_of_runs (places_of l.width) (take l.i (table_runs l.runs)))))
+    (g.D.RowDevice.state l.device ≡ with_slots (g.D.RowDevice.state l.initial.device) 0 (map slot_with (rows_of_runs (places_of l.width) (take l.run-index (table_runs l.runs))))) ×
+    (l.next ≡ length (rows_of_runs (places_of l.width) (take l.run-index (table_runs l.runs)))))

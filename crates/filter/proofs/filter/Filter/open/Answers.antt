@@ -1,23 +1,13 @@
-use Rattle.std.proofs.Common.{length, sym, refl, ap, ◌∙◌, arith}
-use Rattle.filter.specs.Placement.{placed}
-use Rattle.filter.proofs.Opened.{no_runs, no_rows}
+use Rattle.std.proofs.Common.{length, false, ap, ◌∙◌}
+use Rattle.device.specs.Answers.{after_mute}
+use Rattle.filter.specs.Ledger.{opened}
+use Rattle.filter.specs.Standing.{Standing}
+use Rattle.filter.proofs.Opened.{stands_opened}
+use Rattle.filter.proofs.filter.Filter.open.Given.{Over}
 use Rattle.filter.proofs.filter.Filter.open.Goals as goal
 
-pub returns : goal.returns
-returns g c =
-    let s = g.D.RowDevice.state c.args.device in
-    let count = length s.slots in
-    let none = no_rows s.width count c.args.tag in
-    let muted = c.mute.ensures.after in
-    let empty = c.empty_from.ensures.after in
-    record {
-      opened = record {
-        width = ap (λ t. t.width) muted ∙ ap (λ t. t.width) empty;
-        muted = ap (λ t. t.muted) muted;
-        held = refl;
-        tag = refl;
-        runs = c.empty.ensures.runs ∙ sym (no_runs s.width count c.args.tag);
-        fit = let k = ap length none in omega arith;
-        slots = ap (λ t. t.slots) muted ∙ ap (λ t. t.slots) empty ∙ sym (ap (placed count) none);
-      };
-    }
+stands : (g : Over) (c : goal.After-empty g) → Standing (g.D.RowDevice.state c.mute.new.self) c.empty.result false c.args.tag (opened (g.D.RowDevice.state c.args.device).width (length (g.D.RowDevice.state c.args.device).slots) c.args.tag)
+stands g c = stands_opened (g.D.RowDevice.state c.args.device) _ c.empty.result c.args.tag (c.mute.ensures.after ∙ ap (λ s. after_mute s false) c.empty_from.ensures.after) c.empty.ensures.runs
+
+pub invariant_of-result : goal.invariant_of-result
+invariant_of-result g c = record { stands = ∣ (opened (g.D.RowDevice.state c.args.device).width (length (g.D.RowDevice.state c.args.device).slots) c.args.tag, stands g c) ∣₁ }

@@ -1,17 +1,17 @@
 use Rattle.std.proofs.Common.{◌≡◌, ◌++◌, take, drop}
 use Rattle.filter.specs.Ledger.{Ledger}
-use Rattle.filter_calls.specs.Replays.{answered_in_full, after_calls, calls_of}
-use Rattle.filter.specs.StandsFor.{AtHand, StandsFor}
-use Rattle.filter_calls.proofs.replay.replay.Given as goal
+use Rattle.device.specs.Exchanges.{calls_of}
+use Rattle.filter_calls.specs.Replays.{answered_in_full, after_calls}
+use Rattle.filter.specs.StandsFor.{StandsFor}
+use Rattle.filter_calls.proofs.replay.play.Given as goal
 
 -- the filter stands for a ledger; what is left is as it was; with it answered from here on, all is answered from the start
 abbrev pub invariant-loop-exchange : goal.invariant-loop-exchange
 invariant-loop-exchange g l =
     let left = drop l.exchange-index l.initial.exchanges in
-    (first : Ledger) → StandsFor g.D.RowDevice l.initial.filter first → AtHand first l.initial.token →
+    (first : Ledger) → StandsFor g.D.RowDevice l.initial.player.filter first →
     (b : Ledger)
-    × (StandsFor g.D.RowDevice l.filter b)
-    × (AtHand b l.token)
+    × (StandsFor g.D.RowDevice l.player.filter b)
     × (drop l.exchange-index l.exchanges ≡ left)
     × (take l.exchange-index l.exchanges ++ answered_in_full b (calls_of left) ≡ answered_in_full first (calls_of l.initial.exchanges))
     × (after_calls b (calls_of left) ≡ after_calls first (calls_of l.initial.exchanges))

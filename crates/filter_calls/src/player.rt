@@ -1,0 +1,152 @@
+// What makes calls on a filter.
+ghost use Rattle.std.specs.Prelude.{◌≡◌, true, false, Err, MatchOption};
+ghost use Rattle.std.proofs.Props.{props};
+
+use super::call::{FilterAnswer, FilterCall, RefusedCall};
+use super::foreign::HeldFilter;
+use device::column_table::ColumnTable;
+use device::device::RowDevice;
+use filter::filter::Filter;
+use filter::hold_token::{HoldToken, RefusedRelease};
+use rows::refusal::Refusal;
+use run_table::edit::Edit;
+
+// A filter, and the token that is at hand: there is one just while the filter is held.
+pub(super) struct Player<D: RowDevice> {
+    pub(super) filter: Filter<D>,
+    pub(super) token: Option<HoldToken>,
+    ghost at_hand: { MatchOption token (filter.held ≡ false) (λ t. (filter.held ≡ true) × (t.tag ≡ filter.tag)) } by { Prim.hlevel props },
+}
+
+impl<D: RowDevice> Player<D> {
+    ghost use Rattle.filter.specs.Ledger.{Ledger, hold_answer, after_hold, edit_answer, after_edit, release_answer, after_release};
+    ghost use Rattle.filter.specs.StandsFor.{StandsFor};
+    ghost use Rattle.filter_calls.specs.Promises.{PromiseKept};
+    ghost use Rattle.filter_calls.specs.Replays.{after_call, compared, full_answer, ledger_answer, released_by, token_has_tag};
+
+    // Makes one call.
+    pub(super) fn perform(&mut self, call: FilterCall) -> Result<FilterAnswer, RefusedCall>
+        ensures step { (b : Ledger) → StandsFor D.RowDevice self.old.filter b → (compared result ≡ ledger_answer b call) × StandsFor D.RowDevice self.new.filter (after_call b call) }
+        ensures in_full { (b : Ledger) → StandsFor D.RowDevice self.old.filter b → result ≡ full_answer b call }
+    {
+        match call {
+            FilterCall::Hold => {
+                let tag = self.hold()?;
+                Ok(FilterAnswer::Token { tag })
+            }
+            FilterCall::Edit { tag, edit } => {
+                let rows = self.edit(tag, edit)?;
+                Ok(FilterAnswer::Rows(rows))
+            }
+            FilterCall::Release { tag } => {
+                self.release(tag)?;
+                Ok(FilterAnswer::Released)
+            }
+            FilterCall::Ask { number } => {
+                let said = self.filter.ask(number)?;
+                Ok(FilterAnswer::Says(said))
+            }
+            FilterCall::ReportSlot { slot } => {
+                let content = self.filter.report_slot(slot)?;
+                Ok(FilterAnswer::Slot(content))
+            }
+            FilterCall::ReportRun { index } => Ok(FilterAnswer::Run(self.filter.report_run(index))),
+        }
+    }
+
+    // Holds the filter, keeps the token, and tells its tag.
+    fn hold(&mut self) -> Result<u64, Refusal>
+        ensures step { (b : Ledger) → StandsFor D.RowDevice self.old.filter b → (result ≡ hold_answer b) × StandsFor D.RowDevice self.new.filter (after_hold b) }
+    {
+        let token = self.filter.hold()?;
+        let tag = token.tag();
+        match self.token.replace(token) {
+            None => Ok(tag),
+            Some(_) => unreachable(),
+        }
+    }
+
+    // Shows a token of this tag for an edit: the one at hand if it has the tag, else that of another filter.
+    fn edit(&mut self, tag: u64, edit: Edit) -> Result<usize, Refusal>
+        ensures step { (b : Ledger) → StandsFor D.RowDevice self.old.filter b → (result ≡ edit_answer b tag edit) × StandsFor D.RowDevice self.new.filter (after_edit b tag edit) }
+    {
+        if let Some(token) = &self.token {
+            if token.tag() == tag {
+                return self.filter.edit(token, edit);
+            }
+        }
+        let another = HeldFilter::open(ColumnTable::new(self.filter.width(), 0), tag);
+        let answer = self.filter.edit(&another.token, edit);
+        let _ = another.let_go();
+        answer
+    }
+
+    // Shows a token of this tag for a release: the one at hand if it has the tag, else that of another filter.
+    fn release(&mut self, tag: u64) -> Result<(), RefusedCall>
+        ensures step { (b : Ledger) → StandsFor D.RowDevice self.old.filter b → (result ≡ released_by tag (release_answer b tag)) × StandsFor D.RowDevice self.new.filter (after_release b tag) }
+    {
+        if !self.has_token(tag) {
+            return Err(self.release_with_another(tag));
+        }
+        match self.token.take() {
+            Some(token) => match self.filter.release(token) {
+                Ok(()) => Ok(()),
+                Err(_) => unreachable(),
+            },
+            None => unreachable(),
+        }
+    }
+
+    // Shows the token of another filter for a release: it is refused, and hands the token back.
+    fn release_with_another(&mut self, tag: u64) -> RefusedCall
+        requires not_at_hand { token_has_tag self.old.token tag ≡ false }
+        ensures step { (b : Ledger) → StandsFor D.RowDevice self.old.filter b → (Err result ≡ released_by tag (release_answer b tag)) × StandsFor D.RowDevice self.new.filter (after_release b tag) }
+    {
+        let HeldFilter {
+            filter: other,
+            token,
+        } = HeldFilter::open(ColumnTable::new(self.filter.width(), 0), tag);
+        match self.filter.release(token) {
+            Ok(()) => unreachable(),
+            Err(refused) => {
+                let RefusedRelease { refusal, token } = refused;
+                let handed_back = Some(token.tag());
+                let _ = HeldFilter {
+                    filter: other,
+                    token,
+                }
+                .let_go();
+                RefusedCall {
+                    refusal,
+                    handed_back,
+                }
+            }
+        }
+    }
+
+    // Whether a token of this tag is at hand.
+    fn has_token(&self, tag: u64) -> bool
+        ensures value { result ≡ token_has_tag self.now.token tag }
+    {
+        match &self.token {
+            Some(token) => token.tag() == tag,
+            None => false,
+        }
+    }
+
+    // Releases the filter if it is held, and gives its device back, its mute off.
+    pub(super) fn close(self) -> D
+        ensures kept { (b : Ledger) → StandsFor D.RowDevice self.filter b → PromiseKept (D.RowDevice.state result) (D.RowDevice.levels result) b }
+        ensures mute_off { (D.RowDevice.state result).muted ≡ false }
+    {
+        let Player { filter, token } = self;
+        let mut filter = filter;
+        match token {
+            Some(token) => match filter.release(token) {
+                Ok(()) => filter.into_device(),
+                Err(_) => unreachable(),
+            },
+            None => filter.into_device(),
+        }
+    }
+}
