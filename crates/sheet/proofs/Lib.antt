@@ -5,3 +5,5 @@ pub mod Extended
 pub mod Opened
 pub mod ReadFaults
 pub mod RoundTrips
+pub mod CodesByIndex
+pub mod OpenedFaults

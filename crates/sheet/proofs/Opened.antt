@@ -18,21 +18,26 @@ pub all_bytes : (sheet : List ℕ) → ((i : ℕ) → get_or sheet i 0 < 256) �
 all_bytes [] fits = tt
 all_bytes (b ∷ sheet) fits = (fits 0, all_bytes sheet (λ i. fits (suc i)))
 
--- what the whole says, by the header's numbers and the body
-pub record Opened (sheet body : List ℕ) (places count : ℕ) : Type 0 where
+-- what the whole says, by the header's numbers and the body, which should have so many bytes
+pub record Opened (sheet body : List ℕ) (places count needed : ℕ) : Type 0 where
   pub two : 2 ≤ length sheet
   pub width_is : width_field sheet ≡ places
   pub count_is : count_field sheet ≡ count
+  pub size_is : size_of_sheet (width_field sheet) (count_field sheet) ≡ 2 + needed
   pub length_is : length sheet ≡ 2 + length body
   pub symbols_are : symbol_bits sheet ≡ take (2 * (count * places)) (bits_of body)
   pub zeros_are : zero_bits sheet ≡ digits 4 (get_or sheet 1 0) ++ drop (2 * (count * places)) (bits_of body)
 
-pub opened : (sheet : List ℕ) (places count : ℕ) → ((i : ℕ) → get_or sheet i 0 < 256) → 2 ≤ length sheet →
-    places ≡ get_or sheet 0 0 / 8 + 1 → count ≡ get_or sheet 0 0 % 8 * 16 + get_or sheet 1 0 / 16 → Opened sheet (take (length sheet - 2) (drop 2 sheet)) places count
+needed_size : (places count needed : ℕ) → needed ≡ count * places / 4 + min 1 (count * places % 4) → size_of_sheet places count ≡ 2 + needed
+unfolding size_of_sheet
+needed_size places count needed h = omega arith
+
+pub opened : (sheet : List ℕ) (places count needed : ℕ) → ((i : ℕ) → get_or sheet i 0 < 256) → 2 ≤ length sheet → places ≡ get_or sheet 0 0 / 8 + 1 →
+    count ≡ get_or sheet 0 0 % 8 * 16 + get_or sheet 1 0 / 16 → needed ≡ count * places / 4 + min 1 (count * places % 4) → Opened sheet (take (length sheet - 2) (drop 2 sheet)) places count needed
 unfolding symbol_bits zero_bits
-opened [] places count fits two hp hc = absurd (omega arith)
-opened (f ∷ []) places count fits two hp hc = absurd (omega arith)
-opened (f ∷ (s ∷ rest)) places count fits two hp hc =
+opened [] places count needed fits two hp hc hn = absurd (omega arith)
+opened (f ∷ []) places count needed fits two hp hc hn = absurd (omega arith)
+opened (f ∷ (s ∷ rest)) places count needed fits two hp hc hn =
     let e : take (suc (suc (length rest)) - 2) rest ≡ rest = take_all (suc (suc (length rest)) - 2) rest (omega arith) in
     let w = headers.width_is f s rest (fits 0) (fits 1) ∙ sym hp in
     let c = headers.count_is f s rest (fits 0) (fits 1) ∙ sym hc in
@@ -41,6 +46,7 @@ opened (f ∷ (s ∷ rest)) places count fits two hp hc =
       two = two;
       width_is = w;
       count_is = c;
+      size_is = ap₂ size_of_sheet w c ∙ needed_size places count needed hn;
       length_is = (let l = ap length e in omega arith);
       symbols_are = ap₂ (λ (k : ℕ) (u : Digits). take k u) n (headers.rest_is f s rest (fits 0) (fits 1) ∙ ap bits_of (sym e));
       zeros_are =
@@ -48,13 +54,8 @@ opened (f ∷ (s ∷ rest)) places count fits two hp hc =
           (ap₂ (λ (k : ℕ) (u : Digits). drop k u) n (headers.rest_is f s rest (fits 0) (fits 1) ∙ ap bits_of (sym e)));
     }
 
--- how many bytes the body has to have
-pub needed_size : (places count needed : ℕ) → needed ≡ count * places / 4 + min 1 (count * places % 4) → size_of_sheet places count ≡ 2 + needed
-unfolding size_of_sheet
-needed_size places count needed h = omega arith
-
 -- the rows, one by one
-module _ (sheet body : List ℕ) (places count : ℕ) (o : Opened sheet body places count) where
+module _ {sheet body : List ℕ} {places count needed : ℕ} (o : Opened sheet body places count needed) where
   pub rows_count : length (map words_of (rows_in sheet)) ≡ count
   rows_count = length-map (rows_in sheet) words_of ∙ length_cut (width_field sheet) (count_field sheet) (symbols_of (symbol_bits sheet)) ∙ o.count_is
 

@@ -29,7 +29,6 @@ use Rattle.sheet.proofs.ReadFaults as reading
 use Rattle.sheet.proofs.Rows.{even_rows}
 
 pub places_bounds : (w : Width) → (1 ≤ places_of w) × (places_of w ≤ 32)
-unfolding places_of
 places_bounds w = (omega arith, omega arith)
 
 some_none : {e : Refusal} → ◌≡◌ {A = Option Refusal} (Some e) None → ⊥

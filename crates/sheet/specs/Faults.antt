@@ -1,5 +1,6 @@
 -- What is refused, and in which order.
-use Rattle.std.specs.Prelude.{ℕ, ◌^◌, Bool, false, cond, not, ◌||◌, List, [], ◌∷◌, length, Some, None, Ok, Err, Option, Result, nat_le, nat_lt}
+use Rattle.std.specs.Prelude.{ℕ, ◌^◌, Bool, cond, not, ◌||◌, List, length, Some, None, Ok, Err, Option, Result, nat_le, nat_lt}
+use Rattle.std.specs.List.{list_any}
 use Rattle.covers.specs.Digits.{all_zeros}
 use Rattle.rows.specs.declared.refusal.Refusal.{Refusal}
 use Rattle.rows.specs.declared.refusal.Refusal.TheVariants.{MemoryTooShort, RowOutsideWidth, TooManyRows, SheetTooShort, UnknownSymbol, SheetNotClean}
@@ -14,8 +15,7 @@ refusal_in (Err e) = Some e
 
 -- whether some row cares beyond the width
 abbrev pub cares_outside : ℕ → List RowWords → Bool
-cares_outside width [] = false
-cares_outside width (r ∷ rows) = nat_le (2 ^ width) r.care || cares_outside width rows
+cares_outside width rows = list_any (λ r. nat_le (2 ^ width) r.care) rows
 
 -- why rows are not packed into so many bytes of memory: the first reason that holds
 unfoldable pub pack_fault : ℕ → List RowWords → ℕ → Option Refusal

@@ -1,12 +1,18 @@
 -- What reading a sheet answers, and what it leaves in memory.
-use Rattle.std.specs.Prelude.{◌≡◌, ℕ, ◌≤◌, List, ◌++◌, map, length, drop, Ok, Err, Result}
+use Rattle.std.specs.Prelude.{◌≡◌, ℕ, ◌≤◌, cond, List, ◌++◌, map, length, drop, Some, None, Ok, Err, Option, Result, nat_lt}
+use Rattle.covers.specs.declared.symbol.Symbol.{Symbol}
 use Rattle.covers.specs.Symbols.{Symbols}
 use Rattle.rows.specs.Widths.{places_of}
 use Rattle.rows.specs.declared.refusal.Refusal.{Refusal}
 use Rattle.rows.specs.declared.row_words.RowWords.{RowWords}
 use Rattle.sheets.specs.Format.{Sheet}
+use Rattle.sheets.specs.Reading.{symbol_coded}
 use Rattle.rows.specs.Memory.{words_of}
 use Rattle.sheet.specs.declared.sheet_size.SheetSize.{SheetSize}
+
+-- the symbol of a code that is given as a number, where it is one's
+abbrev pub symbol_if_coded : ℕ → Option Symbol
+symbol_if_coded k = cond (nat_lt k 3) (Some (symbol_coded k)) None
 
 -- the words of these rows stand at the start of memory, and the rest is as before
 abbrev pub Holds : List Symbols → List RowWords → List RowWords → Type 0

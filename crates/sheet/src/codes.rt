@@ -1,16 +1,13 @@
 // The codes of symbols: two bits each.
-ghost use Rattle.std.specs.Prelude.{◌≡◌, ◌/◌, ◌<◌, ◌≤◌, length, slice_index_or};
-ghost use Rattle.covers.specs.declared.symbol.Symbol.TheVariants.{Zero};
-ghost use Rattle.rows.specs.Memory.{rows_of};
-ghost use Rattle.sheets.specs.Format.{all_symbols, code_number};
-ghost use Rattle.sheets.specs.Reading.{bits_of, code_at};
+ghost use Rattle.std.specs.Prelude.{◌≡◌};
+ghost use Rattle.sheet.specs.Reading.{symbol_if_coded};
+ghost use Rattle.sheets.specs.Format.{code_number};
 
 use covers::symbol::Symbol;
-use rows::row::Row;
-use rows::row_words::RowWords;
 
-// The code of a symbol.
-fn code(symbol: Symbol) -> u8
+// The code of a symbol, by a match: the codes are the format's, and not the order of the enum's cases.
+#[tactic(auto, unfolding(sheets::specs::Format::code_number, covers::specs::Digits::value))]
+pub(super) fn code_of(symbol: Symbol) -> u8
     ensures value { result ≡ code_number symbol }
 {
     match symbol {
@@ -20,27 +17,14 @@ fn code(symbol: Symbol) -> u8
     }
 }
 
-// The code of a symbol of the rows, counted through all of them; past the last symbol, zeros.
-pub(super) fn code_in_rows(places: usize, rows: &[RowWords], index: usize) -> u8
-    requires low { 1 ≤ places }
-    requires high { places ≤ 32 }
-    ensures small { result < 3 }
-    ensures value { result ≡ code_number (slice_index_or (all_symbols (rows_of places rows.now)) index Zero) }
+// The symbol of a code, where it is one's.
+pub(super) fn symbol_of(code: u8) -> Option<Symbol>
+    ensures value { result ≡ symbol_if_coded code }
 {
-    let row = index / places;
-    if row < rows.len() {
-        let place = places - 1 - index % places;
-        code(Row::read(rows[row]).symbol_at(place as u32))
-    } else {
-        0
+    match code {
+        0b00 => Some(Symbol::Zero),
+        0b01 => Some(Symbol::One),
+        0b10 => Some(Symbol::Dash),
+        _ => None,
     }
-}
-
-// The code at an index among those of packed bytes, four to a byte.
-pub(super) fn code_in_bytes(bytes: &[u8], index: usize) -> u8
-    requires inside { index / 4 < length bytes.now }
-    ensures value { result ≡ code_at (bits_of bytes.now) index }
-{
-    let shift = 6 - 2 * (index % 4);
-    (bytes[index / 4] >> shift) & 0b11
 }

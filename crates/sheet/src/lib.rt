@@ -5,4 +5,6 @@ mod codes;
 pub mod pack;
 pub mod read;
 pub mod round_trip;
+mod sheet_body;
+mod sheet_rows;
 pub mod sheet_size;

@@ -6,13 +6,11 @@ use sheet::pack::pack;
 use sheet::round_trip::pack_then_read;
 use std::test::Fail;
 
-const DASHES: RowWords = RowWords { value: 0, care: 0 };
-
 #[test]
 fn empty_sheet_is_a_header(rt: HostRuntime) -> Result<(), Fail> {
     let mut memory = [7; 3];
     let rows = [];
-    assert_eq!(rt; pack(Width::new(4)?, &rows, &mut memory), Ok(2));
+    assert_eq!(rt; pack(Width::try_from(4)?, &rows, &mut memory), Ok(2));
     assert_eq!(rt; memory, [0x18, 0x00, 7]);
     Ok(())
 }
@@ -34,7 +32,7 @@ fn worked_example(rt: HostRuntime) -> Result<(), Fail> {
         },
     ];
     let mut memory = [7; 6];
-    assert_eq!(rt; pack(Width::new(4)?, &rows, &mut memory), Ok(5));
+    assert_eq!(rt; pack(Width::try_from(4)?, &rows, &mut memory), Ok(5));
     assert_eq!(rt; memory, [0x18, 0x30, 0x05, 0x1a, 0x48, 7]);
     Ok(())
 }
@@ -46,9 +44,9 @@ fn rows_are_read_by_making(rt: HostRuntime) -> Result<(), Fail> {
         care: 0b101,
     }];
     let mut memory = [0; 3];
-    let mut back = [DASHES; 1];
+    let mut back = [RowWords::default(); 1];
     assert_eq!(rt;
-        pack_then_read(Width::new(3)?, &rows, &mut memory, &mut back)?.count,
+        pack_then_read(Width::try_from(3)?, &rows, &mut memory, &mut back)?.count,
         1
     );
     assert_eq!(rt; memory, [0x10, 0x10, 0b01_10_01_00]);
@@ -67,13 +65,13 @@ fn width_1(rt: HostRuntime) -> Result<(), Fail> {
     let rows = [
         RowWords { value: 0, care: 1 },
         RowWords { value: 1, care: 1 },
-        DASHES,
+        RowWords::default(),
     ];
     let mut memory = [0; 3];
-    let mut back = [DASHES; 3];
+    let mut back = [RowWords::default(); 3];
     assert_eq!(rt;
-        pack_then_read(Width::new(1)?, &rows, &mut memory, &mut back)?.width,
-        Width::new(1)?
+        pack_then_read(Width::try_from(1)?, &rows, &mut memory, &mut back)?.width,
+        Width::try_from(1)?
     );
     assert_eq!(rt; memory, [0x00, 0x30, 0b00_01_10_00]);
     assert_eq!(rt; back, rows);
@@ -93,9 +91,9 @@ fn width_31(rt: HostRuntime) -> Result<(), Fail> {
         },
     ];
     let mut memory = [0; 18];
-    let mut back = [DASHES; 2];
+    let mut back = [RowWords::default(); 2];
     assert_eq!(rt;
-        pack_then_read(Width::new(31)?, &rows, &mut memory, &mut back)?.count,
+        pack_then_read(Width::try_from(31)?, &rows, &mut memory, &mut back)?.count,
         2
     );
     assert_eq!(rt; memory[0], 0xf0);
@@ -110,7 +108,7 @@ fn width_31(rt: HostRuntime) -> Result<(), Fail> {
 
 #[test]
 fn full_sheet_has_962_bytes(rt: HostRuntime) -> Result<(), Fail> {
-    let mut rows = [DASHES; 120];
+    let mut rows = [RowWords::default(); 120];
     let mut word: u32 = 1;
     for row in rows.iter_mut() {
         word = word.wrapping_mul(0x9e37_79b1);
@@ -121,10 +119,10 @@ fn full_sheet_has_962_bytes(rt: HostRuntime) -> Result<(), Fail> {
         };
     }
     let mut memory = [0; 962];
-    let mut back = [DASHES; 120];
-    assert_eq!(rt; pack(Width::new(32)?, &rows, &mut memory), Ok(962));
+    let mut back = [RowWords::default(); 120];
+    assert_eq!(rt; pack(Width::try_from(32)?, &rows, &mut memory), Ok(962));
     assert_eq!(rt;
-        pack_then_read(Width::new(32)?, &rows, &mut memory, &mut back)?.count,
+        pack_then_read(Width::try_from(32)?, &rows, &mut memory, &mut back)?.count,
         120
     );
     assert_eq!(rt; back, rows);
@@ -133,14 +131,14 @@ fn full_sheet_has_962_bytes(rt: HostRuntime) -> Result<(), Fail> {
 
 #[test]
 fn row_outside_comes_before_too_many_rows(rt: HostRuntime) -> Result<(), Fail> {
-    let mut rows = [DASHES; 121];
+    let mut rows = [RowWords::default(); 121];
     rows[120] = RowWords {
         value: 0,
         care: 0b1000,
     };
     let mut memory = [7; 1];
     assert_eq!(rt;
-        pack(Width::new(3)?, &rows, &mut memory),
+        pack(Width::try_from(3)?, &rows, &mut memory),
         Err(Refusal::RowOutsideWidth)
     );
     assert_eq!(rt; memory, [7]);
@@ -151,7 +149,11 @@ fn row_outside_comes_before_too_many_rows(rt: HostRuntime) -> Result<(), Fail> {
 fn too_many_rows_come_before_short_memory(rt: HostRuntime) -> Result<(), Fail> {
     let mut memory = [7; 1];
     assert_eq!(rt;
-        pack(Width::new(3)?, &[DASHES; 121], &mut memory),
+        pack(
+            Width::try_from(3)?,
+            &[RowWords::default(); 121],
+            &mut memory
+        ),
         Err(Refusal::TooManyRows)
     );
     assert_eq!(rt; memory, [7]);
@@ -162,7 +164,11 @@ fn too_many_rows_come_before_short_memory(rt: HostRuntime) -> Result<(), Fail> {
 fn short_memory_is_left_alone(rt: HostRuntime) -> Result<(), Fail> {
     let mut memory = [7; 91];
     assert_eq!(rt;
-        pack(Width::new(3)?, &[DASHES; 120], &mut memory),
+        pack(
+            Width::try_from(3)?,
+            &[RowWords::default(); 120],
+            &mut memory
+        ),
         Err(Refusal::MemoryTooShort)
     );
     assert_eq!(rt; memory, [7; 91]);

@@ -57,7 +57,7 @@ fn memory_beyond_the_rows_is_left_alone(rt: HostRuntime) -> Result<(), Fail> {
     assert_eq!(rt;
         read(&[0x10, 0x20, 0b00_01_10_10, 0b01_00_00_00], &mut memory),
         Ok(SheetSize {
-            width: Width::new(3)?,
+            width: Width::try_from(3)?,
             count: 2,
         })
     );

@@ -1,10 +1,10 @@
 -- The codes in the bytes after the header, one by one.
-use Rattle.std.proofs.Common.{◌≡◌, ℕ, zero, suc, ◌+◌, ◌-◌, ◌*◌, ◌/◌, ◌%◌, ◌^◌, ◌<◌, ◌≤◌, Bool, true, false, List, [], ◌∷◌, ◌++◌, length, get_or, take, drop, sym, refl, ap, ◌∙◌, ap₂, arith}
+use Rattle.std.proofs.Common.{◌≡◌, ℕ, zero, suc, ◌+◌, ◌-◌, ◌*◌, ◌/◌, ◌%◌, ◌^◌, ◌<◌, ◌≤◌, Bool, true, false, List, [], ◌∷◌, ◌++◌, length, get_or, take, drop, sym, refl, ap, ◌∙◌, arith}
 use lib.Bits.{bit_and, and_mask}
 use Rattle.std.proofs.lemmas.List.{drop-drop}
 use Rattle.covers.specs.declared.symbol.Symbol.TheVariants.{Zero}
-use Rattle.covers.specs.Digits.{Digits, digits, value, all_zeros}
-use Rattle.sheets.specs.Reading.{bits_of, code_at, unknown_code, symbol_of, symbol_coded, symbols_of}
+use Rattle.covers.specs.Digits.{Digits, digits, value}
+use Rattle.sheets.specs.Reading.{bits_of, code_at, symbol_of, symbol_coded, symbols_of}
 use Rattle.sheets.proofs.Values.{value_low, digits_split}
 use Rattle.sheets.proofs.Codes.{twice_suc}
 
@@ -58,57 +58,6 @@ two_more (x ∷ (y ∷ u)) (suc j) h =
       bits = ap (λ k. drop k (x ∷ (y ∷ u))) e ∙ t.bits ∙ ap (λ k. t.high ∷ (t.low ∷ drop k (x ∷ (y ∷ u)))) (sym f);
       number = ap (λ k. value (take 2 (drop k (x ∷ (y ∷ u))))) e ∙ t.number;
     }
-
-pub code_at_take : (n : ℕ) (u : Digits) (j : ℕ) → j < n → code_at (take (2 * n) u) j ≡ code_at u j
-unfolding code_at
-code_at_take zero u j h = absurd (omega arith)
-code_at_take (suc n) [] j h = ap (λ k. value (take 2 (drop (2 * j) (take k [])))) (twice_suc n)
-code_at_take (suc n) (x ∷ []) j h = ap (λ k. value (take 2 (drop (2 * j) (take k (x ∷ []))))) (twice_suc n)
-code_at_take (suc n) (x ∷ (y ∷ u)) zero h = ap (λ k. value (take 2 (take k (x ∷ (y ∷ u))))) (twice_suc n)
-code_at_take (suc n) (x ∷ (y ∷ u)) (suc j) h =
-    ap₂ (λ (k m : ℕ). value (take 2 (drop m (take k (x ∷ (y ∷ u)))))) (twice_suc n) (twice_suc j) ∙ code_at_take n u j (omega arith) ∙
-    sym (ap (λ m. value (take 2 (drop m (x ∷ (y ∷ u))))) (twice_suc j))
-
--- what a code tells, as a number
-module _ (u : Digits) (j : ℕ) (inside : 2 * j + 2 ≤ length u) where
-  pub unknown_found : code_at u j ≡ 3 → unknown_code (drop (2 * j) u) ≡ true
-  unfolding value
-  unknown_found e = let t = two_more u j inside in ap unknown_code t.bits ∙ go t.high t.low (sym t.number ∙ e)
-    where
-      go : (x y : Bool) → value (x ∷ (y ∷ [])) ≡ 3 → unknown_code (x ∷ (y ∷ drop (2 * (j + 1)) u)) ≡ true
-      go true true k = refl
-      go true false k = absurd (omega arith)
-      go false true k = absurd (omega arith)
-      go false false k = absurd (omega arith)
-
-  pub unknown_more : (code_at u j ≡ 3 → ⊥) → unknown_code (drop (2 * j) u) ≡ unknown_code (drop (2 * (j + 1)) u)
-  unfolding value
-  unknown_more n = let t = two_more u j inside in ap unknown_code t.bits ∙ go t.high t.low (λ e. n (t.number ∙ e))
-    where
-      go : (x y : Bool) → (value (x ∷ (y ∷ [])) ≡ 3 → ⊥) → unknown_code (x ∷ (y ∷ drop (2 * (j + 1)) u)) ≡ unknown_code (drop (2 * (j + 1)) u)
-      go true true k = absurd (k refl)
-      go true false k = refl
-      go false true k = refl
-      go false false k = refl
-
-  pub zeros_broken : (code_at u j ≡ 0 → ⊥) → all_zeros (drop (2 * j) u) ≡ false
-  unfolding value
-  zeros_broken n = let t = two_more u j inside in ap all_zeros t.bits ∙ go t.high t.low (λ e. n (t.number ∙ e))
-    where
-      go : (x y : Bool) → (value (x ∷ (y ∷ [])) ≡ 0 → ⊥) → all_zeros (x ∷ (y ∷ drop (2 * (j + 1)) u)) ≡ false
-      go true y k = refl
-      go false true k = refl
-      go false false k = absurd (k refl)
-
-  pub zeros_more : code_at u j ≡ 0 → all_zeros (drop (2 * j) u) ≡ all_zeros (drop (2 * (j + 1)) u)
-  unfolding value
-  zeros_more e = let t = two_more u j inside in ap all_zeros t.bits ∙ go t.high t.low (sym t.number ∙ e)
-    where
-      go : (x y : Bool) → value (x ∷ (y ∷ [])) ≡ 0 → all_zeros (x ∷ (y ∷ drop (2 * (j + 1)) u)) ≡ all_zeros (drop (2 * (j + 1)) u)
-      go true true k = absurd (omega arith)
-      go true false k = absurd (omega arith)
-      go false true k = absurd (omega arith)
-      go false false k = refl
 
 -- the symbol of a code
 symbol_number : (x y : Bool) → symbol_of x y ≡ symbol_coded (value (x ∷ (y ∷ [])))

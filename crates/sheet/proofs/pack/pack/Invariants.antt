@@ -4,4 +4,4 @@ use Rattle.sheet.specs.Packing.{sheet_of}
 use Rattle.sheet.proofs.pack.pack.Given as goal
 
 abbrev pub invariant-loop-index : goal.invariant-loop-index
-invariant-loop-index l = l.memory ≡ take l.index (sheet_of (places_of l.width) l.rows) ++ drop l.index l.initial.memory
+invariant-loop-index l = l.byte-items ≡ take l.index (sheet_of (places_of l.sheet.width) l.sheet.rows.now) ++ drop l.index l.initial.byte-items
