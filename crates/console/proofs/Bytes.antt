@@ -1,7 +1,8 @@
 -- A session, byte by byte.
-use Rattle.std.proofs.Common.{◌≡◌, ℕ, ◌+◌, ◌<◌, ◌≤◌, Bool, true, false, cond, eqb, List, [], ◌∷◌, ◌++◌, length, get_or, drop, None, Option, sym, refl, ap, ◌∙◌, subst, append_assoc, append-nil, arith}
+use Rattle.std.proofs.Common.{◌≡◌, ℕ, ◌+◌, ◌<◌, ◌≤◌, Bool, true, false, cond, eqb, List, [], ◌∷◌, ◌++◌, length, get_or, drop, None, Option, Result, sym, refl, ap, ◌∙◌, subst, append_assoc, append-nil}
 use Rattle.std.proofs.lemmas.List.{drop_more, drop_all}
-use Rattle.std.proofs.lemmas.Bool.{eqb-true, eqb-false}
+use Rattle.std.proofs.lemmas.Bool.{eqb-false}
+use Rattle.rows.specs.declared.refusal.Refusal.{Refusal}
 use Rattle.lines.specs.declared.reply.Reply.{Reply}
 use Rattle.lines.specs.Buffers.{buffered, kept}
 use Rattle.console.specs.declared.session.Session.{Session}
@@ -9,7 +10,7 @@ use Rattle.console.specs.Sessions.{Stage, closed, left_open, at_end, LineAnswere
 use Rattle.console.specs.SessionStands.{SessionStands, LineClosed, ByteTaken, TakenSoFar, reply_text}
 
 -- after a byte the session stands for a stage and an open line, from which what is left, answered, completes the answers
-module _ (after : Session) (stage : Stage) (held more : List ℕ) (byte : ℕ) (r : Option Reply) where
+module _ (after : Session) (stage : Stage) (held more : List ℕ) (byte : ℕ) (r : Option (Result Reply Refusal)) where
   abbrev Goes_on : (lines : List (List ℕ)) (line : List ℕ) → Type 0
   Goes_on lines line =
       (next_stage : Stage)
@@ -37,10 +38,7 @@ module _ (bytes : List ℕ) (first : Stage) (line : List ℕ) where
   abbrev SoFar : Session → List ℕ → ℕ → Type 0
   SoFar s text i = TakenSoFar bytes first line s text i
 
-  pub so_far_none : (s : Session) (text : List ℕ) → text ≡ [] → SessionStands s first line → SoFar s text 0
-  so_far_none s text e k = (first, line, k, refl, λ rest next a. subst (λ t. LinesAnswered first (closed line bytes) (t ++ rest) next) (sym e) a)
-
-  pub so_far_more : (s after : Session) (text text-after : List ℕ) (i : ℕ) (r : Option Reply) → i < length bytes → text-after ≡ text ++ reply_text r →
+  pub so_far_more : (s after : Session) (text text-after : List ℕ) (i : ℕ) (r : Option (Result Reply Refusal)) → i < length bytes → text-after ≡ text ++ reply_text r →
       ((stage : Stage) (held : List ℕ) → SessionStands s stage held → ByteTaken stage held (get_or bytes i 0) r after) → SoFar s text i → SoFar after text-after (i + 1)
   so_far_more s after text text-after i r h put step inv =
       let one = one_byte after inv.0 inv.1 (drop (i + 1) bytes) (get_or bytes i 0) r (step inv.0 inv.1 inv.2) in
@@ -65,14 +63,6 @@ module _ (bytes : List ℕ) (first : Stage) (line : List ℕ) where
       )
 
 -- the input's end
-pub nothing_open : (line : List ℕ) → eqb (length line) 0 ≡ true → at_end line ≡ []
-nothing_open [] e = refl
-nothing_open (b ∷ line) e = let z = eqb-true (length (b ∷ line)) 0 e in absurd (omega arith)
-
-pub no_bytes : (line : List ℕ) → eqb (length line) 0 ≡ true → line ≡ []
-no_bytes [] e = refl
-no_bytes (b ∷ line) e = let z = eqb-true (length (b ∷ line)) 0 e in absurd (omega arith)
-
 pub something_open : (line : List ℕ) → eqb (length line) 0 ≡ false → at_end line ≡ line ∷ []
 something_open [] e = absurd (eqb-false 0 0 e refl)
 something_open (b ∷ line) e = refl

@@ -1,31 +1,25 @@
 -- An input has one output.
 use Rattle.std.proofs.Common.{◌≡◌, ℕ, List, [], ◌∷◌, ◌++◌, Some, None, Option, sym, refl, ap, ◌∙◌, subst, ap₂}
-use Rattle.lines.specs.declared.command.Command.{Command}
-use Rattle.lines.specs.declared.command.Setup.{Setup}
+use Rattle.lines.specs.Lines.{Means, SetsUp}
 use Rattle.lines.specs.Printed.{reply_bytes}
 use Rattle.lines.proofs.Determined.{command_determined, setup_determined}
-use Rattle.console.specs.Replies.{Reads, reply_to, after_line}
-use Rattle.console.specs.Sessions.{Stage, waiting, running, stopped, ReadsSetup, setup_output, after_setup, closing, lines_of, LineAnswered, LinesAnswered}
+use Rattle.console.specs.Replies.{ReadsAs, reply_to, after_line}
+use Rattle.console.specs.Sessions.{Stage, waiting, running, stopped, setup_output, after_setup, closing, lines_of, LineAnswered, LinesAnswered}
 use Rattle.console.specs.Theorems.{OutputDetermined}
 
-read_determined : (line : List ℕ) (a b : Option Command) → Reads line a → Reads line b → a ≡ b
-read_determined line (Some c) (Some d) m k = ap Some (sym (command_determined line c d m k))
-read_determined line (Some c) None m k = absurd (k c m)
-read_determined line None (Some d) m k = absurd (m d k)
-read_determined line None None m k = refl
-
-setup_read_determined : (line : List ℕ) (a b : Option Setup) → ReadsSetup line a → ReadsSetup line b → a ≡ b
-setup_read_determined line (Some c) (Some d) m k = ap Some (sym (setup_determined line c d m k))
-setup_read_determined line (Some c) None m k = absurd (k c m)
-setup_read_determined line None (Some d) m k = absurd (m d k)
-setup_read_determined line None None m k = refl
+-- where at most one meets this, one is read, or none
+read_determined : {X : Type 0} (P : X → Type 0) → ((x y : X) → P x → P y → y ≡ x) → (a b : Option X) → ReadsAs P a → ReadsAs P b → a ≡ b
+read_determined P one (Some x) (Some y) m k = ap Some (sym (one x y m k))
+read_determined P one (Some x) None m k = absurd (k x m)
+read_determined P one None (Some y) m k = absurd (m y k)
+read_determined P one None None m k = refl
 
 line_determined : (s : Stage) (line o p : List ℕ) (t u : Stage) → LineAnswered s line o t → LineAnswered s line p u → (o ≡ p) × (t ≡ u)
 line_determined waiting line o p t u a b =
-    let e = setup_read_determined line a.0 b.0 a.1 b.1 in
+    let e = read_determined (SetsUp line) (setup_determined line) a.0 b.0 a.1 b.1 in
     (a.2 ∙ ap setup_output e ∙ sym b.2, a.3 ∙ ap after_setup e ∙ sym b.3)
 line_determined (running c) line o p t u a b =
-    let e = read_determined line a.0 b.0 a.1 b.1 in
+    let e = read_determined (Means line) (command_determined line) a.0 b.0 a.1 b.1 in
     (a.2 ∙ ap (λ r. reply_bytes (reply_to c r)) e ∙ sym b.2, a.3 ∙ ap (λ r. running (after_line c r)) e ∙ sym b.3)
 line_determined stopped line o p t u a b = (a.0 ∙ sym b.0, a.1 ∙ sym b.1)
 

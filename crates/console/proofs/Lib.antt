@@ -1,5 +1,5 @@
 pub mod Slots
-pub mod Lengths
+pub mod FirstLine
 pub mod Stages
 pub mod Bytes
 pub mod Determined

@@ -1,6 +1,5 @@
 -- The lines of slots, one after the other.
-use Rattle.std.proofs.Common.{◌≡◌, ℕ, ◌+◌, ◌<◌, List, [], ◌∷◌, ◌++◌, length, get_or, take, Some, None, sym, refl, ap, ◌∙◌, ap₂}
-use Rattle.std.proofs.lemmas.List.{take_more, flat_map_more}
+use Rattle.std.proofs.Common.{◌≡◌, ℕ, List, [], ◌∷◌, ◌++◌, Some, None, refl, ap, ◌∙◌, ap₂}
 use Rattle.std.specs.List.{flat_map}
 use Rattle.device.specs.States.{Slot}
 use Rattle.device.specs.SymbolLaws.{rows_in, row_symbols}
@@ -9,10 +8,6 @@ use Rattle.filter.specs.Placement.{placed}
 use Rattle.filter.proofs.Placed.{runs_long, rows_placed}
 use Rattle.lines.specs.Printed.{row_bytes}
 use Rattle.console.specs.Closing.{slot_bytes, rows_bytes}
-
-pub slots_more : (n : ℕ) (slots : List Slot) (i : ℕ) (line : List ℕ) → i < length slots → line ≡ flat_map (slot_bytes n) (take i slots) ++ slot_bytes n (get_or slots i None) →
-    line ≡ flat_map (slot_bytes n) (take (i + 1) slots)
-slots_more n slots i line h e = e ∙ flat_map_more (slot_bytes n) [] (take i slots) (get_or slots i None) ∙ ap (flat_map (slot_bytes n)) (sym (take_more slots i None h))
 
 slots_as_rows : (n : ℕ) (slots : List Slot) → flat_map (slot_bytes n) slots ≡ rows_bytes (rows_in n slots)
 slots_as_rows n [] = refl

@@ -10,38 +10,37 @@ use Rattle.filter_calls.specs.Replays.{after_calls}
 use Rattle.lines.specs.declared.command.Command.{Command}
 use Rattle.lines.specs.declared.command.Command.TheVariants.{Add, Drop, Ask}
 use Rattle.lines.specs.declared.reply.Reply.{Reply}
-use Rattle.lines.specs.declared.reply.Reply.TheVariants.{Rows, Says, Refused}
+use Rattle.lines.specs.declared.reply.Reply.TheVariants.{Rows, Says}
 use Rattle.lines.specs.Lines.{Means}
+
+-- what is read: the one that meets this, or none
+abbrev pub ReadsAs : {X : Type 0} → (X → Type 0) → Option X → Type 0
+ReadsAs P (Some x) = P x
+ReadsAs {X} P None = (x : X) → P x → ⊥
 
 -- a line as it is read: the command that it means, or none
 abbrev pub Reads : List ℕ → Option Command → Type 0
-Reads line (Some c) = Means line c
-Reads line None = (c : Command) → Means line c → ⊥
+Reads line = ReadsAs (Means line)
 
 -- the calls to the filter that a line stands for: each edit within a hold of its own
 abbrev pub calls_for : ℕ → Option Command → List FilterCall
-calls_for tag (Some (Add first last)) = calls.Hold ∷ (calls.Add tag first last ∷ (calls.Release tag ∷ []))
-calls_for tag (Some (Drop first last)) = calls.Hold ∷ (calls.Drop tag first last ∷ (calls.Release tag ∷ []))
+calls_for tag (Some (Add range)) = calls.Hold ∷ (calls.Edit tag (edits.Add range) ∷ (calls.Release tag ∷ []))
+calls_for tag (Some (Drop range)) = calls.Hold ∷ (calls.Edit tag (edits.Drop range) ∷ (calls.Release tag ∷ []))
 calls_for tag (Some (Ask number)) = calls.Ask number ∷ []
 calls_for tag None = []
 
 -- an answer as a reply: what was granted, or the refusal
-abbrev pub replied : {X : Type 0} → (X → Reply) → Result X Refusal → Reply
-replied granted (Ok x) = granted x
-replied granted (Err e) = Refused e
+abbrev pub replied : {X : Type 0} → (X → Reply) → Result X Refusal → Result Reply Refusal
+replied granted (Ok x) = Ok (granted x)
+replied granted (Err e) = Err e
 
 -- the reply: the ledger's answer to the edit, within the hold, or to the question
-abbrev pub reply_to : Ledger → Option Command → Reply
-reply_to b (Some (Add first last)) = replied Rows (edit_answer (after_hold b) b.tag (edits.Add first last))
-reply_to b (Some (Drop first last)) = replied Rows (edit_answer (after_hold b) b.tag (edits.Drop first last))
+abbrev pub reply_to : Ledger → Option Command → Result Reply Refusal
+reply_to b (Some (Add range)) = replied Rows (edit_answer (after_hold b) b.tag (edits.Add range))
+reply_to b (Some (Drop range)) = replied Rows (edit_answer (after_hold b) b.tag (edits.Drop range))
 reply_to b (Some (Ask number)) = replied Says (ask_answer b number)
-reply_to b None = Refused MalformedLine
+reply_to b None = Err MalformedLine
 
 -- the ledger after the line
 abbrev pub after_line : Ledger → Option Command → Ledger
 after_line b read = after_calls b (calls_for b.tag read)
-
--- a reply that was given or refused
-abbrev pub reply_of : Result Reply Refusal → Reply
-reply_of (Ok reply) = reply
-reply_of (Err e) = Refused e

@@ -1,14 +1,13 @@
 -- A whole session: the bytes that come in, the lines that they are cut into, and the bytes that are printed.
-use Rattle.std.specs.Prelude.{◌≡◌, ℕ, min, Bool, true, false, cond, ◌&&◌, List, [], ◌∷◌, ◌++◌, Some, None, Option, ◌==◌, nat_le}
+use Rattle.std.specs.Prelude.{◌≡◌, ℕ, min, Bool, true, false, cond, ◌&&◌, List, [], ◌∷◌, ◌++◌, Some, None, Err, Option, ◌==◌, nat_le}
 use Rattle.rows.specs.declared.refusal.Refusal.{Refusal}
 use Rattle.rows.specs.declared.refusal.Refusal.TheVariants.{WidthOutOfRange, MalformedLine}
 use Rattle.filter.specs.Ledger.{Ledger, opened, ledger_rows}
 use Rattle.lines.specs.declared.command.Command.{Command}
 use Rattle.lines.specs.declared.command.Setup.{Setup}
-use Rattle.lines.specs.declared.reply.Reply.TheVariants.{Refused}
 use Rattle.lines.specs.Lines.{SetsUp}
 use Rattle.lines.specs.Printed.{reply_bytes}
-use Rattle.console.specs.Replies.{Reads, reply_to, after_line}
+use Rattle.console.specs.Replies.{ReadsAs, Reads, reply_to, after_line}
 use Rattle.console.specs.Closing.{rows_bytes}
 
 -- a text cut at its newlines, with what stood open before it: the lines that it closes
@@ -42,12 +41,11 @@ is_stopped stopped = true
 
 -- the first line as it is read
 abbrev pub ReadsSetup : List ℕ → Option Setup → Type 0
-ReadsSetup line (Some s) = SetsUp line s
-ReadsSetup line None = (s : Setup) → SetsUp line s → ⊥
+ReadsSetup line = ReadsAs (SetsUp line)
 
 -- a refusal of the first line stops the console
 abbrev pub refusal_line : Refusal → List ℕ
-refusal_line refusal = reply_bytes (Refused refusal)
+refusal_line refusal = reply_bytes (Err refusal)
 
 -- a width from 1 to 32 starts it; slots over 120 count as 120
 abbrev pub good_width : Setup → Bool

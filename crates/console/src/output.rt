@@ -11,7 +11,6 @@ pub fn console_output(heap: Global, input: &[u8]) -> Result<String, AllocError>
 {
     let mut session = Session::new();
     let mut text = session.answer_bytes(heap, input)?;
-    let rest = session.end(heap)?;
-    text.push_str(rest.as_str())?;
+    text.push_str(session.end(heap)?.as_str())?;
     Ok(text)
 }

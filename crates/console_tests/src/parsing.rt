@@ -3,6 +3,7 @@ use lines::command::Command;
 use lines::parse::{parse_command, parse_setup};
 use lines::print::{reply_line, row_line};
 use lines::reply::Reply;
+use rows::range::Range;
 use rows::refusal::Refusal;
 use rows::row::Row;
 use rows::width::Width;
@@ -12,11 +13,11 @@ use std::test::Fail;
 fn lines_are_read(rt: HostRuntime) -> Result<(), Fail> {
     assert_eq!(rt;
         parse_command(b"+ 1 4"),
-        Ok(Command::Add { first: 1, last: 4 })
+        Ok(Command::Add(Range { first: 1, last: 4 }))
     );
     assert_eq!(rt;
         parse_command(b"- 0000000010 9"),
-        Ok(Command::Drop { first: 10, last: 9 })
+        Ok(Command::Drop(Range { first: 10, last: 9 }))
     );
     assert_eq!(rt;
         parse_command(b"? 9999999999"),
@@ -52,12 +53,15 @@ fn other_lines_are_refused(rt: HostRuntime) {
 #[test]
 fn replies_are_printed(rt: HostRuntime) -> Result<(), Fail> {
     let heap = rt.alloc();
-    assert_eq!(rt; reply_line(heap, Reply::Rows(120))?.as_str(), "ok 120\n");
-    assert_eq!(rt; reply_line(heap, Reply::Says(true))?.as_str(), "yes\n");
-    assert_eq!(rt; reply_line(heap, Reply::Says(false))?.as_str(), "no\n");
-    let refused = reply_line(heap, Reply::Refused(Refusal::MalformedLine))?;
+    assert_eq!(rt;
+        reply_line(heap, Ok(Reply::Rows(120)))?.as_str(),
+        "ok 120\n"
+    );
+    assert_eq!(rt; reply_line(heap, Ok(Reply::Says(true)))?.as_str(), "yes\n");
+    assert_eq!(rt; reply_line(heap, Ok(Reply::Says(false)))?.as_str(), "no\n");
+    let refused = reply_line(heap, Err(Refusal::MalformedLine))?;
     assert_eq!(rt; refused.as_str(), "refused 13\n");
-    let row = row_line(heap, Width::new(4)?, Row::new(0b0100, 0b0110))?;
+    let row = row_line(heap, Width::try_from(4)?, Row::new(0b0100, 0b0110))?;
     assert_eq!(rt; row.as_str(), "-10-\n");
     Ok(())
 }

@@ -14,18 +14,20 @@ enum Heard {
     Other,
 }
 
-fn read_reply(line: &str) -> Heard {
-    match line {
-        "" => Heard::Nothing,
-        "yes\n" => Heard::Yes,
-        "no\n" => Heard::No,
-        "refused 13\n" => Heard::Malformed,
-        _ => Heard::Other,
+impl From<&str> for Heard {
+    fn from(line: &str) -> Heard {
+        match line {
+            "" => Heard::Nothing,
+            "yes\n" => Heard::Yes,
+            "no\n" => Heard::No,
+            "refused 13\n" => Heard::Malformed,
+            _ => Heard::Other,
+        }
     }
 }
 
 fn told(session: &mut Session, heap: Global, line: &[u8]) -> Result<Heard, Fail> {
-    Ok(read_reply(session.answer_bytes(heap, line)?.as_str()))
+    Ok(Heard::from(session.answer_bytes(heap, line)?.as_str()))
 }
 
 #[test]

@@ -1,5 +1,6 @@
 -- A line has at most one meaning.
 use Rattle.std.proofs.Common.{◌≡◌, ℕ, List, sym, ap, ◌∙◌, subst, ap₂}
+use Rattle.rows.specs.declared.range.Range.{Range}
 use Rattle.lines.specs.declared.command.Command.{Command}
 use Rattle.lines.specs.declared.command.Command.TheVariants.{Add, Drop, Ask}
 use Rattle.lines.specs.declared.command.Setup.{Setup}
@@ -18,13 +19,13 @@ module _ (text : List ℕ) (x y u v : ℕ) (a : WrittenPair text x y) (b : Writt
   pub second_determined : y ≡ v
   second_determined = one_number a.right y v a.second (subst (λ t. Written t v) (sym (same_right text x y u v a b)) b.second)
 
+range_determined : (text : List ℕ) (r s : Range) → WrittenPair text r.first r.last → WrittenPair text s.first s.last → s ≡ r
+range_determined text r s a b =
+    ap₂ (λ f l. record { first = f; last = l }) (sym (first_determined text r.first r.last s.first s.last a b)) (sym (second_determined text r.first r.last s.first s.last a b))
+
 pub command_determined : (line : List ℕ) (c d : Command) → Means line c → Means line d → d ≡ c
-command_determined line (Add f l) d m k =
-    let q = means_add line m.0 m.1 d k in
-    q.2 ∙ ap₂ Add (sym (first_determined m.0 f l q.0 q.1 m.2 q.3)) (sym (second_determined m.0 f l q.0 q.1 m.2 q.3))
-command_determined line (Drop f l) d m k =
-    let q = means_drop line m.0 m.1 d k in
-    q.2 ∙ ap₂ Drop (sym (first_determined m.0 f l q.0 q.1 m.2 q.3)) (sym (second_determined m.0 f l q.0 q.1 m.2 q.3))
+command_determined line (Add r) d m k = let q = means_add line m.0 m.1 d k in q.1 ∙ ap Add (range_determined m.0 r q.0 m.2 q.2)
+command_determined line (Drop r) d m k = let q = means_drop line m.0 m.1 d k in q.1 ∙ ap Drop (range_determined m.0 r q.0 m.2 q.2)
 command_determined line (Ask x) d m k =
     let q = means_ask line m.0 m.1 d k in
     q.1 ∙ ap Ask (sym (one_number m.0 x q.0 m.2 q.2))

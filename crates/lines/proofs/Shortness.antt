@@ -1,5 +1,5 @@
 -- How long lines are, and some that are written out.
-use Rattle.std.proofs.Common.{ℕ, ◌≤◌, List, ◌∷◌, length, codes, refl, ap, arith}
+use Rattle.std.proofs.Common.{rules, ℕ, ◌≤◌, List, ◌∷◌, length, codes, refl, ap, arith}
 use Rattle.std.proofs.lemmas.List.{length-append}
 use Rattle.lines.specs.declared.command.Command.{Command}
 use Rattle.lines.specs.declared.command.Command.TheVariants.{Add, Drop, Ask}
@@ -16,8 +16,8 @@ pair_short text x y w =
     omega arith
 
 command_short : (line : List ℕ) (c : Command) → Means line c → length line ≤ 64
-command_short line (Add f l) m = let e = ap length m.1 in let k = pair_short m.0 f l m.2 in omega arith
-command_short line (Drop f l) m = let e = ap length m.1 in let k = pair_short m.0 f l m.2 in omega arith
+command_short line (Add r) m = let e = ap length m.1 in let k = pair_short m.0 r.first r.last m.2 in omega arith
+command_short line (Drop r) m = let e = ap length m.1 in let k = pair_short m.0 r.first r.last m.2 in omega arith
 command_short line (Ask x) m = let e = ap length m.1 in let k = m.2.few in omega arith
 
 pub lines_short : LinesAreShort
@@ -25,42 +25,8 @@ lines_short = record { commands = command_short; setups = λ line s w. let k = p
 
 pub lines_written : LinesExamples
 lines_written = record {
-  adds = (
-    codes "1 4",
-    refl,
-    record {
-      left = codes "1";
-      right = codes "4";
-      parts = refl;
-      first = record { digits = (omega arith, (omega arith, tt)); few = omega arith; number = refl };
-      second = record { digits = (omega arith, (omega arith, tt)); few = omega arith; number = refl };
-    },
-  );
-  drops = (
-    codes "010 0000000009",
-    refl,
-    record {
-      left = codes "010";
-      right = codes "0000000009";
-      parts = refl;
-      first = record { digits = (omega arith, (omega arith, (omega arith, (omega arith, tt)))); few = omega arith; number = refl };
-      second = record { digits = (omega arith, (omega arith, (omega arith, (omega arith, (omega arith, (omega arith, (omega arith, (omega arith, (omega arith, (omega arith, (omega arith, tt))))))))))); few = omega arith; number = refl };
-    },
-  );
-  asks = (
-    codes "4294967295",
-    refl,
-    record {
-      digits = (omega arith, (omega arith, (omega arith, (omega arith, (omega arith, (omega arith, (omega arith, (omega arith, (omega arith, (omega arith, (omega arith, tt)))))))))));
-      few = omega arith;
-      number = refl;
-    },
-  );
-  sets_up = record {
-    left = codes "32";
-    right = codes "120";
-    parts = refl;
-    first = record { digits = (omega arith, (omega arith, (omega arith, tt))); few = omega arith; number = refl };
-    second = record { digits = (omega arith, (omega arith, (omega arith, (omega arith, tt)))); few = omega arith; number = refl };
-  };
+  adds = (codes "1 4", refl, record { left = codes "1"; right = codes "4"; parts = refl; first = search rules; second = search rules });
+  drops = (codes "010 0000000009", refl, record { left = codes "010"; right = codes "0000000009"; parts = refl; first = search rules; second = search rules });
+  asks = (codes "4294967295", refl, search rules);
+  sets_up = record { left = codes "32"; right = codes "120"; parts = refl; first = search rules; second = search rules };
 }

@@ -11,8 +11,8 @@ VerbThen verb line P = (rest : List ℕ) × (line ≡ verb ++ (codes " " ++ rest
 
 -- the line, without its newline, is a command: "+ F L", "- F L" or "? X"
 abbrev pub Means : List ℕ → Command → Type 0
-Means line (Add first last) = VerbThen (codes "+") line (λ rest. WrittenPair rest first last)
-Means line (Drop first last) = VerbThen (codes "-") line (λ rest. WrittenPair rest first last)
+Means line (Add range) = VerbThen (codes "+") line (λ rest. WrittenPair rest range.first range.last)
+Means line (Drop range) = VerbThen (codes "-") line (λ rest. WrittenPair rest range.first range.last)
 Means line (Ask number) = VerbThen (codes "?") line (λ rest. Written rest number)
 
 -- the first line is "W S"

@@ -12,7 +12,7 @@ pub record LinesAreShort : Type 0 where
 
 -- examples; zeros may stand first
 pub record LinesExamples : Type 0 where
-  pub adds : Means (codes "+ 1 4") (Add 1 4)
-  pub drops : Means (codes "- 010 0000000009") (Drop 10 9)
+  pub adds : Means (codes "+ 1 4") (Add record { first = 1; last = 4 })
+  pub drops : Means (codes "- 010 0000000009") (Drop record { first = 10; last = 9 })
   pub asks : Means (codes "? 4294967295") (Ask 4294967295)
   pub sets_up : SetsUp (codes "32 120") record { width = 32; slots = 120 }

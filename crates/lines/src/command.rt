@@ -1,10 +1,11 @@
 // What a line asks of the console.
+use rows::range::Range;
 
-// A line after the first.
+// A line after the first. Its edits are no `Edit` of the run table: the lines know no filter.
 #[derive(Clone, Copy, PartialEq, Eq, Debug)]
 pub enum Command {
-    Add { first: u64, last: u64 },
-    Drop { first: u64, last: u64 },
+    Add(Range),
+    Drop(Range),
     Ask { number: u64 },
 }
 

@@ -1,7 +1,6 @@
 // The console's lines: which bytes are which command, and the bytes of every line that it prints.
 #![tactic(auto)]
 
-pub mod buffering;
 pub mod command;
 pub mod line_buffer;
 mod number;

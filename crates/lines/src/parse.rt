@@ -4,7 +4,7 @@ ghost use Rattle.rows.specs.declared.refusal.Refusal.TheVariants.{MalformedLine}
 ghost use Rattle.lines.specs.Lines.{Means, SetsUp};
 
 use super::command::{Command, Setup};
-use super::number::{one_number, two_numbers};
+use super::number::{one_number, one_range, two_numbers};
 use rows::refusal::Refusal;
 
 // The command that a line, without its newline, stands for; refused if it stands for none.
@@ -12,25 +12,13 @@ pub fn parse_command(line: &[u8]) -> Result<Command, Refusal>
     ensures accepted { (c : Command) → Means line.now c → result ≡ Ok c }
     ensures only { MatchResult result (λ c. Means line.now c) (λ e. e ≡ MalformedLine) }
 {
-    let [verb, space, numbers @ ..] = line else {
+    let [verb, b' ', numbers @ ..] = line else {
         return Err(Refusal::MalformedLine);
     };
-    if *space != b' ' {
-        return Err(Refusal::MalformedLine);
-    }
     match char::from(*verb) {
-        '+' => {
-            let (first, last) = two_numbers(numbers)?;
-            Ok(Command::Add { first, last })
-        }
-        '-' => {
-            let (first, last) = two_numbers(numbers)?;
-            Ok(Command::Drop { first, last })
-        }
-        '?' => {
-            let number = one_number(numbers)?;
-            Ok(Command::Ask { number })
-        }
+        '+' => one_range(numbers).map(Command::Add),
+        '-' => one_range(numbers).map(Command::Drop),
+        '?' => one_number(numbers).map(|number| Command::Ask { number }),
         _ => Err(Refusal::MalformedLine),
     }
 }
@@ -40,6 +28,5 @@ pub fn parse_setup(line: &[u8]) -> Result<Setup, Refusal>
     ensures accepted { (s : Setup) → SetsUp line.now s → result ≡ Ok s }
     ensures only { MatchResult result (λ s. SetsUp line.now s) (λ e. e ≡ MalformedLine) }
 {
-    let (width, slots) = two_numbers(line)?;
-    Ok(Setup { width, slots })
+    two_numbers(line).map(|(width, slots)| Setup { width, slots })
 }

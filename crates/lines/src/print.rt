@@ -5,22 +5,18 @@ ghost use Rattle.rows.specs.Widths.{places_of};
 ghost use Rattle.lines.specs.Printed.{reply_bytes, row_bytes};
 
 use super::reply::Reply;
+use rows::refusal::Refusal;
 use rows::row::Row;
 use rows::width::Width;
 use std::alloc::{AllocError, Global};
 
-// The line of a reply, its newline included.
-pub fn reply_line(heap: Global, reply: Reply) -> Result<String, AllocError>
+// The line of a reply or of a refusal, its newline included.
+pub fn reply_line(heap: Global, reply: Result<Reply, Refusal>) -> Result<String, AllocError>
     ensures bytes_unless_memory_fails { IfOk result (λ s. string_bytes s ≡ reply_bytes reply) }
 {
     match reply {
-        Reply::Rows(count) => format!(in heap; "ok {count}\n"),
-        Reply::Says(true) => String::from_str(heap, "yes\n"),
-        Reply::Says(false) => String::from_str(heap, "no\n"),
-        Reply::Refused(refusal) => {
-            let number = refusal.number();
-            format!(in heap; "refused {number}\n")
-        }
+        Ok(reply) => format!(in heap; "{reply}\n"),
+        Err(refusal) => format!(in heap; "{refusal}\n"),
     }
 }
 
@@ -28,10 +24,5 @@ pub fn reply_line(heap: Global, reply: Reply) -> Result<String, AllocError>
 pub fn row_line(heap: Global, width: Width, row: Row) -> Result<String, AllocError>
     ensures bytes_unless_memory_fails { IfOk result (λ s. string_bytes s ≡ row_bytes (symbols (places_of width) row.value row.care)) }
 {
-    let mut line = String::new(heap);
-    for place in (0..width.places()).rev() {
-        line.push(row.symbol_at(place).letter())?;
-    }
-    line.push('\n')?;
-    Ok(line)
+    format!(in heap; "{}\n", row.at(width))
 }

@@ -8,7 +8,7 @@ returns c =
     let input = c.args.input.now in
     let text = string_bytes c.in_ok-text.text in
     let said = c.in_ok-text.ensures.answered_unless_memory_fails waiting [] c.new-session.ensures.begun in
-    let done = (c.in_ok-rest.ensures.ended_unless_memory_fails said.0 (left_open [] input) said.2).0 in
+    let done = (c.in_ok-end.ensures.ended_unless_memory_fails said.0 (left_open [] input) said.2).0 in
     record {
       output_unless_memory_fails = record {
         printed = text ++ done.printed;
