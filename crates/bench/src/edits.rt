@@ -1,14 +1,14 @@
 // Edits of a full filter: 16 runs and 112 rows at width 32.
-use super::stopwatch::per_call;
+use super::stopwatch::timed;
 use console::console::Console;
 use device::column_table::ColumnTable;
-use device::device::RowDevice;
+use device::device::{MOST_SLOTS, RowDevice};
 use device::slot_record::SlotRecord;
 use device::slot_table::SlotTable;
 use lines::reply::Reply;
 use rows::width::Width;
 use std::io;
-use std::time::Instant;
+use std::rt::Clock;
 
 const CALLS: u32 = 2_000;
 
@@ -41,35 +41,31 @@ pub(super) fn filled<D: RowDevice>(device: D) -> Console<D> {
     console
 }
 
-// Drops the middle run and adds it again, so often; answers how many rows were told in all.
-fn edit<D: RowDevice>(console: &mut Console<D>) -> usize {
-    let mut all = 0usize;
-    for call in 0..CALLS {
+// Drops the middle run and adds it again, in turn.
+fn measure_on<R: Print + Clock, D: RowDevice + Drop>(
+    rt: &R,
+    name: &str,
+    device: D,
+) -> io::Result<()> {
+    let mut console = filled(device);
+    let (time, rows) = timed(rt, CALLS, |call| {
         let line: &[u8] = if call % 2 == 0 {
             b"- 1879048193 1879048318"
         } else {
             b"+ 1879048193 1879048318"
         };
-        if let Reply::Rows(count) = console.answer(line) {
-            all = all.wrapping_add(count);
+        match console.answer(line) {
+            Ok(Reply::Rows(count)) => count,
+            _ => 0,
         }
-    }
-    all
-}
-
-fn measure_on<D: RowDevice + Drop>(rt: &HostRuntime, name: &str, device: D) -> io::Result<()> {
-    let mut console = filled(device);
-    let start = Instant::now(rt)?;
-    let rows = edit(&mut console);
-    let time = per_call(rt, start, CALLS)?;
+    })?;
     println!(rt; "edit of a full filter, {name}: {time} ns ({rows} rows)")
 }
 
-pub(super) fn measure(rt: &HostRuntime) -> io::Result<()> {
-    let Ok(width) = Width::new(32) else {
-        return Ok(());
-    };
-    measure_on(rt, "column table", ColumnTable::new(width, 120))?;
-    let mut records = [SlotRecord::EMPTY; 120];
+// Each table by name, here and for questions: a closure cannot be generic over the device.
+pub(super) fn measure<R: Print + Clock>(rt: &R) -> io::Result<()> {
+    let width = Width::try_from(32).unwrap();
+    measure_on(rt, "column table", ColumnTable::new(width, MOST_SLOTS))?;
+    let mut records = [SlotRecord::EMPTY; MOST_SLOTS];
     measure_on(rt, "slot table", SlotTable::new(width, &mut records))
 }

@@ -15,7 +15,7 @@ use run_table::table::RunTable;
 use std::io;
 use std::mem::size_of;
 
-pub(super) fn print(rt: &HostRuntime) -> io::Result<()> {
+pub(super) fn print(rt: &impl Print) -> io::Result<()> {
     let sizes = [
         ("Width", size_of::<Width>()),
         ("Row", size_of::<Row>()),

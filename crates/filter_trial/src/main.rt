@@ -2,7 +2,6 @@
 #![tactic(auto)]
 
 mod replays;
-mod show;
 mod talk;
 
 use std::io;

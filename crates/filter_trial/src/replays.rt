@@ -1,6 +1,5 @@
 // Calls replayed on filters over several devices: the answers, and what the slots hold afterwards.
-use super::show::{print_refusal, print_slots};
-use super::talk::{print_exchanges, print_three};
+use super::talk::{ShownAnswers, ShownCall};
 use device::column_table::ColumnTable;
 use device::slot_record::SlotRecord;
 use device::slot_table::SlotTable;
@@ -10,7 +9,10 @@ use filter_calls::closing::replay_and_close;
 use layers::flip::Flip;
 use layers::layer::Layer;
 use layers::turn::Turn;
+use rows::range::Range;
 use rows::width::Width;
+use run_table::edit::Edit;
+use shown::slots::ShownSlots;
 use std::io;
 
 // The tag of every filter here.
@@ -20,82 +22,73 @@ const TAG: u64 = 7;
 fn asked(call: FilterCall) -> FilterExchange {
     FilterExchange {
         call,
-        answer: FilterAnswer::Released,
+        answer: Ok(FilterAnswer::Released),
     }
 }
 
-fn add(tag: u64, first: u64, last: u64) -> FilterExchange {
-    asked(FilterCall::Add { tag, first, last })
+fn add(tag: u64, first: u64, last: u64) -> FilterCall {
+    let edit = Edit::Add(Range { first, last });
+    FilterCall::Edit { tag, edit }
 }
 
-fn drop(tag: u64, first: u64, last: u64) -> FilterExchange {
-    asked(FilterCall::Drop { tag, first, last })
+fn drop(tag: u64, first: u64, last: u64) -> FilterCall {
+    let edit = Edit::Drop(Range { first, last });
+    FilterCall::Edit { tag, edit }
 }
 
-fn ask(number: u64) -> FilterExchange {
-    asked(FilterCall::Ask { number })
-}
-
-fn report_slot(slot: usize) -> FilterExchange {
-    asked(FilterCall::ReportSlot { slot })
-}
-
-fn report_run(index: usize) -> FilterExchange {
-    asked(FilterCall::ReportRun { index })
-}
-
-fn show_two_runs(rt: &HostRuntime, width: Width) -> io::Result<()> {
-    let mut exchanges = [
-        asked(FilterCall::Hold),
-        add(TAG, 8, 11),
-        add(TAG, 0, 3),
-        report_run(0),
-        report_run(1),
-        report_run(2),
-    ];
-    let device = ColumnTable::new(width, 4);
-    let device = replay_and_close(device, TAG, &mut exchanges);
-    print_exchanges(rt, width, &exchanges)?;
-    print!(rt; "slots:")?;
-    print_slots(rt, &device)
-}
-
-pub(super) fn two_runs(rt: &HostRuntime) -> io::Result<()> {
+pub(super) fn two_runs(rt: &impl Print) -> io::Result<()> {
     println!(rt;
         "A filter of two runs at width 4: each keeps its own rows, though -0-- alone would do"
     )?;
-    match Width::new(4) {
-        Ok(width) => show_two_runs(rt, width),
-        Err(refusal) => print_refusal(rt, refusal),
+    let width = Width::try_from(4).unwrap();
+    let mut exchanges = [
+        FilterCall::Hold,
+        add(TAG, 8, 11),
+        add(TAG, 0, 3),
+        FilterCall::ReportRun { index: 0 },
+        FilterCall::ReportRun { index: 1 },
+        FilterCall::ReportRun { index: 2 },
+    ]
+    .map(asked);
+    let device = replay_and_close(ColumnTable::new(width, 4), TAG, &mut exchanges);
+    for FilterExchange { call, answer } in exchanges {
+        let answers = &[answer];
+        println!(rt; "{}:{}", ShownCall(call), ShownAnswers { width, answers })?;
     }
+    println!(rt; "slots:{}", ShownSlots { device: &device })
 }
 
 // Calls of every kind, granted and refused.
 fn calls() -> [FilterExchange; 19] {
     [
-        ask(3),
+        FilterCall::Ask { number: 3 },
         add(TAG, 0, 3),
-        asked(FilterCall::Hold),
-        ask(3),
+        FilterCall::Hold,
+        FilterCall::Ask { number: 3 },
         add(8, 0, 3),
         add(TAG, 0, 16),
         add(TAG, 8, 11),
         add(TAG, 0, 3),
-        report_slot(0),
-        report_slot(4),
-        asked(FilterCall::Release { tag: 8 }),
-        asked(FilterCall::Release { tag: TAG }),
-        ask(9),
-        asked(FilterCall::Hold),
+        FilterCall::ReportSlot { slot: 0 },
+        FilterCall::ReportSlot { slot: 4 },
+        FilterCall::Release { tag: 8 },
+        FilterCall::Release { tag: TAG },
+        FilterCall::Ask { number: 9 },
+        FilterCall::Hold,
         add(TAG, 13, 15),
         add(TAG, 5, 5),
         drop(TAG, 8, 14),
-        report_run(0),
-        report_run(1),
+        FilterCall::ReportRun { index: 0 },
+        FilterCall::ReportRun { index: 1 },
     ]
+    .map(asked)
 }
 
-fn show_mixture(rt: &HostRuntime, width: Width) -> io::Result<()> {
+pub(super) fn mixture(rt: &impl Print) -> io::Result<()> {
+    println!(rt;
+        "A mixture of calls at width 4 with 4 slots, over a slot table | a column table | a flip of 0001 over a turn over a column table"
+    )?;
+    let width = Width::try_from(4).unwrap();
     let mut over_slots = calls();
     let mut over_columns = calls();
     let mut over_pile = calls();
@@ -106,32 +99,20 @@ fn show_mixture(rt: &HostRuntime, width: Width) -> io::Result<()> {
     let table = ColumnTable::new(width, 4);
     let pile = Layer::new(Flip { mask: 0b0001 }, Layer::new(Turn, table));
     let pile = replay_and_close(pile, TAG, &mut over_pile);
-    print_three(rt, width, &over_slots, &over_columns, &over_pile)?;
-    print!(rt; "slot table:")?;
-    print_slots(rt, &slots)?;
-    print!(rt; "column table:")?;
-    print_slots(rt, &columns)?;
+    for ((a, b), c) in over_slots.iter().zip(&over_columns).zip(&over_pile) {
+        let answers = &[a.answer, b.answer, c.answer];
+        println!(rt; "{}:{}", ShownCall(a.call), ShownAnswers { width, answers })?;
+    }
+    println!(rt; "slot table:{}", ShownSlots { device: &slots })?;
+    println!(rt; "column table:{}", ShownSlots { device: &columns })?;
     print_levels(rt, pile)
 }
 
 // What the slots hold on top of the pile, below the flip and at the bottom.
-fn print_levels(rt: &HostRuntime, pile: Layer<Flip, Layer<Turn, ColumnTable>>) -> io::Result<()> {
-    print!(rt; "pile, on top:")?;
-    print_slots(rt, &pile)?;
+fn print_levels(rt: &impl Print, pile: Layer<Flip, Layer<Turn, ColumnTable>>) -> io::Result<()> {
+    println!(rt; "pile, on top:{}", ShownSlots { device: &pile })?;
     let (_, turn) = pile.into_parts();
-    print!(rt; "pile, below the flip:")?;
-    print_slots(rt, &turn)?;
+    println!(rt; "pile, below the flip:{}", ShownSlots { device: &turn })?;
     let (_, table) = turn.into_parts();
-    print!(rt; "pile, at the bottom:")?;
-    print_slots(rt, &table)
-}
-
-pub(super) fn mixture(rt: &HostRuntime) -> io::Result<()> {
-    println!(rt;
-        "A mixture of calls at width 4 with 4 slots, over a slot table | a column table | a flip of 0001 over a turn over a column table"
-    )?;
-    match Width::new(4) {
-        Ok(width) => show_mixture(rt, width),
-        Err(refusal) => print_refusal(rt, refusal),
-    }
+    println!(rt; "pile, at the bottom:{}", ShownSlots { device: &table })
 }

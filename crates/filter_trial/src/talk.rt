@@ -1,71 +1,94 @@
 // Calls to a filter and their answers, in words.
-use super::show::print_held;
-use filter_calls::call::{FilterAnswer, FilterCall, FilterExchange};
+use filter_calls::call::{FilterAnswer, FilterCall, RefusedCall};
+use rows::range::Range;
 use rows::width::Width;
-use std::io;
+use run_table::edit::Edit;
+use shown::range::ShownRange;
+use shown::row_count::RowCount;
+use shown::slots::ShownSlot;
+use std::fmt;
 
-fn print_call(rt: &HostRuntime, call: FilterCall) -> io::Result<()> {
-    match call {
-        FilterCall::Hold => print!(rt; "hold"),
-        FilterCall::Add { tag, first, last } => print!(rt; "add {first} to {last}, token {tag}"),
-        FilterCall::Drop { tag, first, last } => print!(rt; "drop {first} to {last}, token {tag}"),
-        FilterCall::Release { tag } => print!(rt; "release, token {tag}"),
-        FilterCall::Ask { number } => print!(rt; "ask {number}"),
-        FilterCall::ReportSlot { slot } => print!(rt; "slot {slot}"),
-        FilterCall::ReportRun { index } => print!(rt; "run {index}"),
-    }
-}
+// A call to a filter.
+#[derive(Clone, Copy)]
+pub(super) struct ShownCall(pub(super) FilterCall);
 
-fn print_answer(rt: &HostRuntime, width: Width, answer: FilterAnswer) -> io::Result<()> {
-    match answer {
-        FilterAnswer::Token { tag } => print!(rt; " token {tag}"),
-        FilterAnswer::Rows(1) => print!(rt; " 1 row"),
-        FilterAnswer::Rows(count) => print!(rt; " {count} rows"),
-        FilterAnswer::Released => print!(rt; " released"),
-        FilterAnswer::NotReleased { refusal, tag } => {
-            print!(rt; " refused {}, token {tag} back", refusal.number())
+impl fmt::Display for ShownCall {
+    fn fmt<W: fmt::Write>(&self, f: &mut fmt::Formatter<W>) -> fmt::Result {
+        match self.0 {
+            FilterCall::Hold => write!(f, "hold"),
+            FilterCall::Edit { tag, edit } => write!(f, "{}, token {tag}", ShownEdit(edit)),
+            FilterCall::Release { tag } => write!(f, "release, token {tag}"),
+            FilterCall::Ask { number } => write!(f, "ask {number}"),
+            FilterCall::ReportSlot { slot } => write!(f, "slot {slot}"),
+            FilterCall::ReportRun { index } => write!(f, "run {index}"),
         }
-        FilterAnswer::Says(true) => print!(rt; " yes"),
-        FilterAnswer::Says(false) => print!(rt; " no"),
-        FilterAnswer::Slot(held) => print_held(rt, width, held),
-        FilterAnswer::Run(Some((first, last))) => print!(rt; " {first} to {last}"),
-        FilterAnswer::Run(None) => print!(rt; " none"),
-        FilterAnswer::Refused(refusal) => print!(rt; " refused {}", refusal.number()),
     }
 }
 
-// Each call with its answer.
-pub(super) fn print_exchanges(
-    rt: &HostRuntime,
-    width: Width,
-    exchanges: &[FilterExchange],
-) -> io::Result<()> {
-    for exchange in exchanges {
-        print_call(rt, exchange.call)?;
-        print!(rt; ":")?;
-        print_answer(rt, width, exchange.answer)?;
-        println!(rt; "")?;
+#[derive(Clone, Copy)]
+struct ShownEdit(Edit);
+
+impl fmt::Display for ShownEdit {
+    fn fmt<W: fmt::Write>(&self, f: &mut fmt::Formatter<W>) -> fmt::Result {
+        match self.0 {
+            Edit::Add(range) => write!(f, "add {}", ShownRange(range)),
+            Edit::Drop(range) => write!(f, "drop {}", ShownRange(range)),
+        }
     }
-    Ok(())
 }
 
-// Each call with the answers that three filters gave to it.
-pub(super) fn print_three(
-    rt: &HostRuntime,
+// An answer of a filter whose numbers have this width.
+#[derive(Clone, Copy)]
+struct ShownAnswer {
     width: Width,
-    first: &[FilterExchange],
-    second: &[FilterExchange],
-    third: &[FilterExchange],
-) -> io::Result<()> {
-    for ((a, b), c) in first.iter().zip(second.iter()).zip(third.iter()) {
-        print_call(rt, a.call)?;
-        print!(rt; ":")?;
-        print_answer(rt, width, a.answer)?;
-        print!(rt; " |")?;
-        print_answer(rt, width, b.answer)?;
-        print!(rt; " |")?;
-        print_answer(rt, width, c.answer)?;
-        println!(rt; "")?;
+    answer: Result<FilterAnswer, RefusedCall>,
+}
+
+impl fmt::Display for ShownAnswer {
+    fn fmt<W: fmt::Write>(&self, f: &mut fmt::Formatter<W>) -> fmt::Result {
+        let width = self.width;
+        match self.answer {
+            Ok(FilterAnswer::Token { tag }) => write!(f, " token {tag}"),
+            Ok(FilterAnswer::Rows(count)) => write!(f, " {}", RowCount(count)),
+            Ok(FilterAnswer::Released) => write!(f, " released"),
+            Ok(FilterAnswer::Says(true)) => write!(f, " yes"),
+            Ok(FilterAnswer::Says(false)) => write!(f, " no"),
+            Ok(FilterAnswer::Slot(held)) => write!(f, "{}", ShownSlot { width, held }),
+            Ok(FilterAnswer::Run(Some((first, last)))) => {
+                write!(f, " {}", ShownRange(Range { first, last }))
+            }
+            Ok(FilterAnswer::Run(None)) => write!(f, " none"),
+            Err(refused) => write_refused(f, refused),
+        }
     }
-    Ok(())
+}
+
+fn write_refused<W: fmt::Write>(f: &mut fmt::Formatter<W>, refused: RefusedCall) -> fmt::Result {
+    let RefusedCall {
+        refusal,
+        handed_back,
+    } = refused;
+    match handed_back {
+        Some(tag) => write!(f, " {refusal}, token {tag} back"),
+        None => write!(f, " {refusal}"),
+    }
+}
+
+// What one filter or several answered to a call.
+#[derive(Clone, Copy)]
+pub(super) struct ShownAnswers<'a> {
+    pub(super) width: Width,
+    pub(super) answers: &'a [Result<FilterAnswer, RefusedCall>],
+}
+
+impl fmt::Display for ShownAnswers<'_> {
+    fn fmt<W: fmt::Write>(&self, f: &mut fmt::Formatter<W>) -> fmt::Result {
+        let width = self.width;
+        for (index, answer) in self.answers.iter().enumerate() {
+            let before = if index == 0 { "" } else { " |" };
+            let answer = *answer;
+            write!(f, "{before}{}", ShownAnswer { width, answer })?;
+        }
+        Ok(())
+    }
 }

@@ -1,77 +1,100 @@
 // The rows of some ranges.
-use super::show::{print_refusal, print_rows};
-use ranges::range::rows_of_range;
+use super::show::ShownRows;
+use ranges::range::{MOST_ROWS, rows_of_range};
+use rows::range::Range;
+use rows::refusal::Refusal;
 use rows::row_words::RowWords;
 use rows::width::Width;
-use std::io;
+use shown::outcome::Outcome;
+use shown::range::ShownRange;
+use shown::row_count::RowCount;
+use std::{fmt, io};
+
+// Rows, and before them how many they are.
+#[derive(Clone, Copy)]
+struct CountedRows<'a>(ShownRows<'a>);
+
+impl fmt::Display for CountedRows<'_> {
+    fn fmt<W: fmt::Write>(&self, f: &mut fmt::Formatter<W>) -> fmt::Result {
+        write!(f, " {}:{}", RowCount(self.0.rows.len()), self.0)
+    }
+}
+
+// The rows of a range at a width of so many places, written into memory.
+fn rows_at(places: u64, range: Range, memory: &mut [RowWords]) -> Result<CountedRows<'_>, Refusal> {
+    let width = Width::try_from(places)?;
+    let count = rows_of_range(width, range, memory)?;
+    let rows = &memory[..count];
+    Ok(CountedRows(ShownRows { width, rows }))
+}
 
 // Prints the rows of a range, written into memory for so many rows.
-fn account(rt: &HostRuntime, places: u64, first: u64, last: u64, room: usize) -> io::Result<()> {
-    print!(rt; "width {places}, {first} to {last}:")?;
-    let width = match Width::new(places) {
-        Ok(width) => width,
-        Err(refusal) => return print_refusal(rt, refusal),
-    };
-    let mut memory = [RowWords { value: 0, care: 0 }; 62];
-    let memory = &mut memory[0..room.min(62)];
-    match rows_of_range(width, first, last, memory) {
-        Ok(count) => {
-            let noun = if count == 1 { "row" } else { "rows" };
-            print!(rt; " {count} {noun}:")?;
-            print_rows(rt, width, &memory[0..count.min(memory.len())])
-        }
-        Err(refusal) => print_refusal(rt, refusal),
-    }
+fn account(rt: &impl Print, places: u64, range: Range, room: usize) -> io::Result<()> {
+    let mut memory = [RowWords::default(); MOST_ROWS];
+    let rows = Outcome(rows_at(places, range, &mut memory[..room.min(MOST_ROWS)]));
+    println!(rt; "width {places}, {}:{rows}", ShownRange(range))
 }
 
-pub(super) fn worked_ranges(rt: &HostRuntime) -> io::Result<()> {
+// Prints the rows of ranges at widths of so many places, with room for all rows.
+fn account_all(rt: &impl Print, ranges: &[(u64, Range)]) -> io::Result<()> {
+    for (places, range) in ranges {
+        account(rt, *places, *range, MOST_ROWS)?;
+    }
+    Ok(())
+}
+
+fn range(first: u64, last: u64) -> Range {
+    Range { first, last }
+}
+
+pub(super) fn worked_ranges(rt: &impl Print) -> io::Result<()> {
     println!(rt; "Worked ranges")?;
     let ranges = [
-        (3, 1, 6),
-        (3, 0, 4),
-        (3, 3, 7),
-        (3, 2, 5),
-        (3, 1, 5),
-        (3, 2, 6),
-        (4, 3, 12),
-        (4, 1, 12),
-        (3, 6, 4),
-        (2, 3, 0),
+        (3, range(1, 6)),
+        (3, range(0, 4)),
+        (3, range(3, 7)),
+        (3, range(2, 5)),
+        (3, range(1, 5)),
+        (3, range(2, 6)),
+        (4, range(3, 12)),
+        (4, range(1, 12)),
+        (3, range(6, 4)),
+        (2, range(3, 0)),
     ];
-    for (places, first, last) in ranges {
-        account(rt, places, first, last, 62)?;
-    }
-    Ok(())
+    account_all(rt, &ranges)
 }
 
-pub(super) fn wide_ranges(rt: &HostRuntime) -> io::Result<()> {
+pub(super) fn wide_ranges(rt: &impl Print) -> io::Result<()> {
     println!(rt; "Other widths, single numbers and the whole circle")?;
     let ranges = [
-        (32, 1, 4_294_967_294),
-        (32, 0, 4_294_967_295),
-        (32, 4_294_967_295, 0),
-        (32, 2_147_483_648, 2_147_483_647),
-        (31, 1, 2_147_483_646),
-        (31, 1_073_741_825, 1_073_741_823),
-        (2, 1, 2),
-        (2, 2, 2),
-        (1, 0, 0),
-        (1, 1, 0),
-        (1, 0, 1),
+        (32, range(1, 4_294_967_294)),
+        (32, range(0, 4_294_967_295)),
+        (32, range(4_294_967_295, 0)),
+        (32, range(2_147_483_648, 2_147_483_647)),
+        (31, range(1, 2_147_483_646)),
+        (31, range(1_073_741_825, 1_073_741_823)),
+        (2, range(1, 2)),
+        (2, range(2, 2)),
+        (1, range(0, 0)),
+        (1, range(1, 0)),
+        (1, range(0, 1)),
     ];
-    for (places, first, last) in ranges {
-        account(rt, places, first, last, 62)?;
-    }
-    Ok(())
+    account_all(rt, &ranges)
 }
 
-pub(super) fn refused_ranges(rt: &HostRuntime) -> io::Result<()> {
+pub(super) fn refused_ranges(rt: &impl Print) -> io::Result<()> {
     println!(rt; "Refused")?;
-    account(rt, 3, 1, 8, 62)?;
-    account(rt, 3, 8, 1, 62)?;
-    account(rt, 3, 1, 6, 2)?;
-    account(rt, 3, 1, 6, 0)?;
-    account(rt, 3, 8, 8, 0)?;
-    account(rt, 0, 0, 0, 62)?;
-    account(rt, 33, 0, 0, 62)
+    let refused = [
+        (3, range(1, 8), MOST_ROWS),
+        (3, range(8, 1), MOST_ROWS),
+        (3, range(1, 6), 2),
+        (3, range(1, 6), 0),
+        (3, range(8, 8), 0),
+        (0, range(0, 0), MOST_ROWS),
+        (33, range(0, 0), MOST_ROWS),
+    ];
+    for (places, range, room) in refused {
+        account(rt, places, range, room)?;
+    }
+    Ok(())
 }

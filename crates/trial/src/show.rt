@@ -1,63 +1,25 @@
-// How rows, slots and refusals are printed.
-use device::device::RowDevice;
-use rows::refusal::Refusal;
+// How lists of rows are printed.
 use rows::row::Row;
 use rows::row_words::RowWords;
 use rows::width::Width;
-use std::io;
-
-// The symbols of a row, the first place first.
-pub(super) fn print_row(rt: &HostRuntime, width: Width, row: Row) -> io::Result<()> {
-    for place in (0..width.places()).rev() {
-        print!(rt; "{}", row.symbol_at(place).letter())?;
-    }
-    Ok(())
-}
-
-// The binary digits of a number.
-pub(super) fn print_number(rt: &HostRuntime, width: Width, number: u64) -> io::Result<()> {
-    for place in (0..width.places()).rev() {
-        print!(rt; "{}", (number >> place) & 1)?;
-    }
-    Ok(())
-}
+use std::fmt;
 
 // At most four rows on a line, and how many more there are.
-pub(super) fn print_rows(rt: &HostRuntime, width: Width, rows: &[RowWords]) -> io::Result<()> {
-    for words in rows.iter().take(4) {
-        print!(rt; " ")?;
-        print_row(rt, width, Row::read(*words))?;
-    }
-    if rows.len() > 4 {
-        let more = rows.len() - 4;
-        print!(rt; " and {more} more")?;
-    }
-    println!(rt; "")
+#[derive(Clone, Copy)]
+pub(super) struct ShownRows<'a> {
+    pub(super) width: Width,
+    pub(super) rows: &'a [RowWords],
 }
 
-pub(super) fn print_refusal(rt: &HostRuntime, refusal: Refusal) -> io::Result<()> {
-    let number = refusal.number();
-    println!(rt; " refused {number}")
-}
-
-// Prints what a slot holds.
-pub(super) fn print_held(rt: &HostRuntime, width: Width, held: Option<Row>) -> io::Result<()> {
-    match held {
-        Some(row) => {
-            print!(rt; " ")?;
-            print_row(rt, width, row)
+impl fmt::Display for ShownRows<'_> {
+    fn fmt<W: fmt::Write>(&self, f: &mut fmt::Formatter<W>) -> fmt::Result {
+        for words in self.rows.iter().take(4) {
+            write!(f, " {}", Row::from(*words).at(self.width))?;
         }
-        None => print!(rt; " empty"),
-    }
-}
-
-// Prints what each slot of the device holds.
-pub(super) fn print_slots<D: RowDevice>(rt: &HostRuntime, device: &D) -> io::Result<()> {
-    for slot in 0..device.slot_count() {
-        match device.read(slot) {
-            Ok(held) => print_held(rt, device.width(), held)?,
-            Err(refusal) => print_refusal(rt, refusal)?,
+        if self.rows.len() > 4 {
+            let more = self.rows.len() - 4;
+            write!(f, " and {more} more")?;
         }
+        Ok(())
     }
-    println!(rt; "")
 }

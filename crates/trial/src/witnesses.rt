@@ -1,44 +1,53 @@
 // Ranges with their rows, and beside the rows a witness that no list is shorter.
-use super::show::{print_number, print_refusal, print_row};
-use ranges::range::rows_of_range;
+use ranges::range::{MOST_ROWS, rows_of_range};
 use ranges::witness::witness_of_range;
+use rows::range::Range;
 use rows::refusal::Refusal;
 use rows::row::Row;
 use rows::row_words::RowWords;
 use rows::width::Width;
-use std::io;
+use shown::outcome::Outcome;
+use shown::range::ShownRange;
+use std::{fmt, io};
 
-// Writes the rows and the witness of a range; answers how many they are.
-fn find_both(
+// A range's rows, and beside each of them a number of the witness: two arrays and a count, since two calls fill them.
+#[derive(Drop)]
+struct Witnessed {
     width: Width,
-    first: u64,
-    last: u64,
-    rows: &mut [RowWords],
-    numbers: &mut [u64],
-) -> Result<usize, Refusal> {
-    rows_of_range(width, first, last, rows)?;
-    witness_of_range(width, first, last, numbers)
+    rows: [RowWords; MOST_ROWS],
+    numbers: [u64; MOST_ROWS],
+    count: usize,
 }
 
-fn account(rt: &HostRuntime, width: Width, first: u64, last: u64) -> io::Result<()> {
-    let places = width.places();
-    print!(rt; "width {places}, {first} to {last}:")?;
-    let mut rows = [RowWords { value: 0, care: 0 }; 62];
-    let mut numbers = [0u64; 62];
-    let count = match find_both(width, first, last, &mut rows, &mut numbers) {
-        Ok(count) => count,
-        Err(refusal) => return print_refusal(rt, refusal),
-    };
-    for (words, number) in rows.iter().zip(numbers.iter()).take(count) {
-        print!(rt; " ")?;
-        print_row(rt, width, Row::read(*words))?;
-        print!(rt; "/")?;
-        print_number(rt, width, *number)?;
+impl Witnessed {
+    fn of_range(places: u64, range: Range) -> Result<Witnessed, Refusal> {
+        let width = Width::try_from(places)?;
+        let mut rows = [RowWords::default(); MOST_ROWS];
+        let mut numbers = [0; MOST_ROWS];
+        rows_of_range(width, range, &mut rows)?;
+        let count = witness_of_range(width, range, &mut numbers)?;
+        Ok(Witnessed {
+            width,
+            rows,
+            numbers,
+            count,
+        })
     }
-    println!(rt; "")
 }
 
-pub(super) fn rows_and_witnesses(rt: &HostRuntime) -> io::Result<()> {
+impl fmt::Display for Witnessed {
+    fn fmt<W: fmt::Write>(&self, f: &mut fmt::Formatter<W>) -> fmt::Result {
+        let places = self.width.places() as usize;
+        let pairs = self.rows.iter().zip(self.numbers.iter());
+        for (words, number) in pairs.take(self.count) {
+            let row = Row::from(*words).at(self.width);
+            write!(f, " {row}/{number:0places$b}")?;
+        }
+        Ok(())
+    }
+}
+
+pub(super) fn rows_and_witnesses(rt: &impl Print) -> io::Result<()> {
     println!(rt; "Rows, and beside them numbers no two of which one row can take")?;
     let ranges = [
         (3, 1, 6),
@@ -52,10 +61,9 @@ pub(super) fn rows_and_witnesses(rt: &HostRuntime) -> io::Result<()> {
         (3, 1, 8),
     ];
     for (places, first, last) in ranges {
-        match Width::new(places) {
-            Ok(width) => account(rt, width, first, last)?,
-            Err(refusal) => print_refusal(rt, refusal)?,
-        }
+        let range = Range { first, last };
+        let shown = Outcome(Witnessed::of_range(places, range));
+        println!(rt; "width {places}, {}:{shown}", ShownRange(range))?;
     }
     Ok(())
 }
