@@ -5,6 +5,8 @@ use device::column_table::ColumnTable;
 use device::device::RowDevice;
 use filter_calls::call::FilterCall;
 use filter_calls::closing::replay_and_close;
+use filter_calls::replay::{Replayed, replay};
+use rows::range::Range;
 use rows::row::Row;
 use rows::width::Width;
 use std::test::Fail;
@@ -24,5 +26,27 @@ fn sixteen_runs_have_a_row_each(rt: HostRuntime) -> Result<(), Fail> {
     let device = replay_and_close(device, TAG, &mut seventeen_runs());
     assert_eq!(rt; device.read(15), Ok(Some(Row::new(48, 0b111111))));
     assert_eq!(rt; device.read(16), Ok(None));
+    Ok(())
+}
+
+#[test]
+fn a_filter_goes_on_after_its_calls(rt: HostRuntime) -> Result<(), Fail> {
+    let device = ColumnTable::new(Width::try_from(4)?, 2);
+    let mut exchanges = [FilterCall::Hold, add(8, 11)].map(asked);
+    let Replayed { filter, token } = replay(device, TAG, &mut exchanges);
+    let mut filter = filter;
+    if let Some(token) = token {
+        let rows = filter.drop(
+            &token,
+            Range {
+                first: 10,
+                last: 11,
+            },
+        );
+        assert_eq!(rt; rows, Ok(1));
+        filter.release(token).unwrap();
+    }
+    assert_eq!(rt; filter.ask(9), Ok(true));
+    assert_eq!(rt; filter.ask(10), Ok(false));
     Ok(())
 }
