@@ -50,8 +50,8 @@ pub inner_at_one : (p b a : ℕ) → under p b a ≡ true → inner_numbers p b 
 inner_at_one zero b a h = let z = ltb-true (b % 2 ^ 0) (a % 2 ^ 0) h in absurd (omega arith)
 inner_at_one (suc p) b a h = let e : suc p - 1 ≡ p = omega arith in inner_one p b a h ∙ ap (λ j. one_turned j b a ∷ inner_numbers j b a) (sym e)
 
--- the numbers of a range, at p places and below a limit
-module _ (n f l p limit : ℕ) (size : p ≡ n) (top : limit ≡ 2 ^ n) where
+-- the numbers of a range, below a limit
+module _ (n f l limit : ℕ) (top : limit ≡ 2 ^ n) where
   pub range_one : (l + 1) % limit ≡ f → numbers_of_range n f l ≡ f ∷ []
   unfolding numbers_of_range
   range_one e =
@@ -59,9 +59,9 @@ module _ (n f l p limit : ℕ) (size : p ≡ n) (top : limit ≡ 2 ^ n) where
       (eq-eqb (number_after n l) f (ap (λ k. (l + 1) % k) (sym top) ∙ e))
 
   pub range_beside : ((l + 1) % limit ≡ f → ⊥) →
-      numbers_of_range n f l ≡ numbers_beside (leb ((l + 1) % limit) ((f + limit - 1) % limit)) p ((f + limit - 1) % limit) ((l + 1) % limit)
+      numbers_of_range n f l ≡ numbers_beside (leb ((l + 1) % limit) ((f + limit - 1) % limit)) n ((f + limit - 1) % limit) ((l + 1) % limit)
   unfolding numbers_of_range
   range_beside ne =
       ap (λ t. cond t (f ∷ []) (numbers_beside (leb (number_after n l) (number_before n f)) n (number_before n f) (number_after n l)))
       (ne_eqb (number_after n l) f (λ e. ne (ap (λ k. (l + 1) % k) top ∙ e))) ∙
-      ap₂ (λ j k. numbers_beside (leb ((l + 1) % k) ((f + k - 1) % k)) j ((f + k - 1) % k) ((l + 1) % k)) (sym size) (sym top)
+      ap (λ k. numbers_beside (leb ((l + 1) % k) ((f + k - 1) % k)) n ((f + k - 1) % k) ((l + 1) % k)) (sym top)

@@ -1,8 +1,8 @@
 pub mod Handing
 pub mod Adding
-pub mod Stretches
+pub mod SplitEnds
 pub mod Fronts
-pub mod EndLists
+pub mod EdgeLists
 pub mod AcrossLists
 pub mod RunLists
 pub mod BesideLists

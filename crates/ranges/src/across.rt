@@ -1,104 +1,125 @@
 // The rows of a straight range whose first number begins with 0 and whose last begins with 1.
-ghost use Rattle.std.specs.Prelude.{◌≡◌, suc, ◌+◌, ◌^◌, ◌<◌, map};
-ghost use Rattle.arrayvec.specs.ArrayVec.{Extends};
-ghost use Rattle.ranges.specs.Building.{HasRoom, FreeLead, behind_lead, across_rows, across_words};
+ghost use Rattle.std.specs.Prelude.{◌≡◌, ◌+◌, ◌<◌, true, false};
+ghost use Rattle.covers.specs.Digits.{digit};
 
-use super::front::extend;
+use super::edge::Edge;
+use super::ends::Ends;
 use super::lead::Lead;
 use super::lists::RowList;
-use super::stretch::Stretch;
 use rows::digit::has_one;
 
-// Adds the rows of 0·first to 1·last. The inner range of a middle rule is one place shorter.
-pub(super) fn rows_across(lead: Lead, ends: Stretch, rows: &mut RowList)
-    requires places_within { ends.places < 32 }
-    requires free { FreeLead ends.places lead }
-    requires room { HasRoom rows.old (across_words lead ends) }
-    ensures rows { Extends rows.old (across_words lead ends) rows.new }
-{
-    if ends.first == 0 {
-        return rows_from_zero(lead, ends, rows);
-    }
-    if ends.reaches_highest() {
-        let end = ends.from_first();
-        rows.push(lead.one);
-        return end.write_rows(lead.zero, rows);
-    }
-    let rest = ends.behind_first_digits();
-    let place = rest.places;
-    match (has_one(ends.first, place), has_one(ends.last, place)) {
-        (true, false) => rows_in_inner_quarters(lead, rest, rows),
-        (true, true) => {
-            // the third quarter is whole
-            let inner = lead.inserted(place, true);
-            rows.push(extend(lead.one, place, false));
-            rows_across(inner, rest, rows);
+// From 0·first to 1·last, where the lead has what stands in the place of the first digit.
+#[derive(Clone, Copy)]
+pub struct Across {
+    pub lead: Lead,
+    pub ends: Ends,
+    ghost fits: { lead.dash.places ≡ ends.places },
+}
+
+impl Across {
+    ghost use Rattle.arrayvec.specs.ArrayVec.{Extends};
+    ghost use Rattle.ranges.specs.Building.{HasRoom, Split, across_words, zero_words, one_words, edge_words};
+
+    // Adds the rows. The inner range of a middle rule is one place shorter.
+    #[tactic(auto, using(crate::proofs::AcrossLists::across_some))]
+    pub(super) fn write(self, rows: &mut RowList)
+        requires room { HasRoom rows.old (across_words self) }
+        ensures rows { Extends rows.old (across_words self) rows.new }
+    {
+        let Across { lead, ends } = self;
+        if ends.first == 0 {
+            return self.write_from_zero(rows);
         }
-        (false, false) => {
-            // the second quarter is whole
-            let inner = lead.inserted(place, false);
-            rows.push(extend(lead.zero, place, true));
-            rows_across(inner, rest, rows);
+        if ends.reaches_highest() {
+            rows.push(lead.one.words);
+            return self.from_first().write(rows);
         }
-        (false, true) => {
-            if rest.first > rest.last + 1 {
-                return rows_of_ends_apart(lead, rest, rows);
+        let rest = ends.behind_first_digits();
+        let place = rest.places;
+        match (has_one(ends.first, place), has_one(ends.last, place)) {
+            (true, false) => {
+                // both ends lie in the inner quarters
+                let lead = lead.with_digits(true, false);
+                let inner = Across { lead, ends: rest };
+                inner.from_first().write(rows);
+                inner.to_last().write(rows);
             }
-            // the ends overlap
-            let inner = lead.widened(place);
-            rows.push(extend(lead.zero, place, true));
-            rows_across(inner, rest, rows);
+            (true, true) => {
+                // the third quarter is whole
+                rows.push(lead.one.with_digit(false).words);
+                let lead = lead.inserted(true);
+                Across { lead, ends: rest }.write(rows);
+            }
+            (false, false) => {
+                // the second quarter is whole
+                rows.push(lead.zero.with_digit(true).words);
+                let lead = lead.inserted(false);
+                Across { lead, ends: rest }.write(rows);
+            }
+            (false, true) if rest.first > rest.last + 1 => self.write_apart(rest, rows),
+            (false, true) => {
+                // the ends overlap
+                rows.push(lead.zero.with_digit(true).words);
+                let lead = lead.widened();
+                Across { lead, ends: rest }.write(rows);
+            }
         }
     }
-}
 
-// From 0: a row for all that begin with 0, and the lowest of those that begin with 1; or the whole.
-fn rows_from_zero(lead: Lead, ends: Stretch, rows: &mut RowList)
-    requires places_within { ends.places < 32 }
-    requires from_zero { ends.first ≡ 0 }
-    requires free { FreeLead ends.places lead }
-    requires room { HasRoom rows.old (across_words lead ends) }
-    ensures rows { Extends rows.old (across_words lead ends) rows.new }
-{
-    if ends.reaches_highest() {
-        rows.push(lead.dash);
-    } else {
-        let end = ends.to_last();
-        rows.push(lead.zero);
-        end.write_rows(lead.one, rows);
+    // The ends lie in the outer quarters and are apart: both quarters between them are whole.
+    fn write_apart(self, rest: Ends, rows: &mut RowList)
+        requires split { Split self.ends rest }
+        requires first_digit { digit rest.places self.ends.first ≡ false }
+        requires last_digit { digit rest.places self.ends.last ≡ true }
+        requires apart { rest.last + 1 < rest.first }
+        requires room { HasRoom rows.old (across_words self) }
+        ensures rows { Extends rows.old (across_words self) rows.new }
+    {
+        let Across { lead, ends: _ } = self;
+        let outer = Across {
+            lead: lead.with_digits(false, true),
+            ends: rest,
+        };
+        outer.from_first().write(rows);
+        rows.push(lead.zero.with_digit(true).words);
+        rows.push(lead.one.with_digit(false).words);
+        outer.to_last().write(rows);
     }
-}
 
-// Both ends lie in the inner quarters, 01·first to 10·last.
-fn rows_in_inner_quarters(lead: Lead, rest: Stretch, rows: &mut RowList)
-    requires places_within { rest.places < 31 }
-    requires free { FreeLead (suc rest.places) lead }
-    requires room { HasRoom rows.old (map (behind_lead lead) (across_rows (suc rest.places) (2 ^ rest.places + rest.first) rest.last)) }
-    ensures rows { Extends rows.old (map (behind_lead lead) (across_rows (suc rest.places) (2 ^ rest.places + rest.first) rest.last)) rows.new }
-{
-    let (from_first, to_last) = (rest.from_first(), rest.to_last());
-    let second = extend(lead.zero, rest.places, true);
-    let third = extend(lead.one, rest.places, false);
-    from_first.write_rows(second, rows);
-    to_last.write_rows(third, rows);
-}
+    // From 0: a row for all that begin with 0, and the lowest of those that begin with 1; or the whole.
+    #[tactic(auto, using(crate::proofs::AcrossLists::across_some))]
+    fn write_from_zero(self, rows: &mut RowList)
+        requires from_zero { self.ends.first ≡ 0 }
+        requires room { HasRoom rows.old (across_words self) }
+        ensures rows { Extends rows.old (across_words self) rows.new }
+    {
+        if self.ends.reaches_highest() {
+            rows.push(self.lead.dash.words);
+        } else {
+            rows.push(self.lead.zero.words);
+            self.to_last().write(rows);
+        }
+    }
 
-// The ends lie in the outer quarters and are apart, 00·first to 11·last.
-fn rows_of_ends_apart(lead: Lead, rest: Stretch, rows: &mut RowList)
-    requires places_within { rest.places < 31 }
-    requires apart { rest.last + 1 < rest.first }
-    requires free { FreeLead (suc rest.places) lead }
-    requires room { HasRoom rows.old (map (behind_lead lead) (across_rows (suc rest.places) rest.first (2 ^ rest.places + rest.last))) }
-    ensures rows { Extends rows.old (map (behind_lead lead) (across_rows (suc rest.places) rest.first (2 ^ rest.places + rest.last))) rows.new }
-{
-    let place = rest.places;
-    let (from_first, to_last) = (rest.from_first(), rest.to_last());
-    let first = extend(lead.zero, place, false);
-    let second = extend(lead.zero, place, true);
-    let third = extend(lead.one, place, false);
-    let fourth = extend(lead.one, place, true);
-    from_first.write_rows(first, rows);
-    rows.push(second);
-    rows.push(third);
-    to_last.write_rows(fourth, rows);
+    // The numbers that begin with 0, the highest from the first on.
+    fn from_first(self) -> Edge
+        ensures words { edge_words result ≡ zero_words self.lead self.ends }
+    {
+        Edge {
+            front: self.lead.zero,
+            count: self.ends.limit() - self.ends.first,
+            exchanged: true,
+        }
+    }
+
+    // The numbers that begin with 1, the lowest up to the last.
+    fn to_last(self) -> Edge
+        ensures words { edge_words result ≡ one_words self.lead self.ends }
+    {
+        Edge {
+            front: self.lead.one,
+            count: self.ends.last + 1,
+            exchanged: false,
+        }
+    }
 }

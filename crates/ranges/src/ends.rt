@@ -1,59 +1,99 @@
-// The rows of the lowest or the highest numbers of some places.
-ghost use Rattle.std.specs.Prelude.{◌^◌, ◌<◌, ◌≤◌};
+// The ends of a range.
+ghost use Rattle.std.specs.Prelude.{◌≡◌, ◌+◌, ◌*◌, ◌/◌, ◌%◌, ◌^◌, ◌<◌, ◌≤◌, ◌==◌, bit_xor};
+ghost use Rattle.covers.specs.Rules.{run_first, run_last};
+ghost use Rattle.rows.specs.Widths.{places_of};
 
-use super::front::extend;
-use super::lists::RowList;
-use rows::digit::has_one;
-use rows::row_words::RowWords;
+use rows::range::Range;
+use rows::refusal::Refusal;
+use rows::width::Width;
 
-// The `count` lowest numbers or, exchanged, the highest.
+// The first and the last number, both of so many places.
 #[derive(Clone, Copy)]
-pub struct End {
+pub struct Ends {
     pub places: u32,
-    pub count: u64,
-    pub exchanged: bool,
+    pub first: u64,
+    pub last: u64,
     ghost places_within: { places ≤ 32 },
-    ghost some: { 1 ≤ count },
-    ghost count_within: { count ≤ 2 ^ places },
+    ghost first_within: { first < 2 ^ places },
+    ghost last_within: { last < 2 ^ places },
 }
 
-impl End {
-    ghost use Rattle.arrayvec.specs.ArrayVec.{Extends};
-    ghost use Rattle.ranges.specs.Building.{HasRoom, Free, end_words};
+impl Ends {
+    ghost use Rattle.ranges.specs.Building.{EndsMade, Split};
 
-    // Adds the rows of these numbers behind a front.
-    pub(super) fn write_rows(self, front: RowWords, rows: &mut RowList)
-        requires free { Free self.places front }
-        requires room { HasRoom rows.old (end_words front self) }
-        ensures rows { Extends rows.old (end_words front self) rows.new }
+    // The ends of the range, refused if one is no number of the width.
+    pub(super) fn of(width: Width, range: Range) -> Result<Ends, Refusal>
+        ensures made { EndsMade (places_of width) range.first range.last result }
     {
-        if self.count == 1u64 << self.places {
-            rows.push(front);
-        } else {
-            self.write_below(front, rows);
+        if !range.is_within(width) {
+            return Err(Refusal::NumberOutsideWidth);
+        }
+        Ok(Ends {
+            places: width.places(),
+            first: range.first,
+            last: range.last,
+        })
+    }
+
+    // One more than the highest number.
+    pub(super) fn limit(self) -> u64
+        ensures value { result ≡ 2 ^ self.places }
+    {
+        1u64 << self.places
+    }
+
+    // The range's one run; a range that goes round and leaves no number out is the whole circle.
+    pub(super) fn run(self) -> Ends
+        ensures places { result.places ≡ self.places }
+        ensures first { result.first ≡ run_first self.first self.last }
+        ensures last { result.last ≡ run_last self.places self.first self.last }
+    {
+        if self.first == self.last + 1 {
+            return Ends {
+                places: self.places,
+                first: 0,
+                last: self.limit() - 1,
+            };
+        }
+        self
+    }
+
+    // Whether the last number is the highest.
+    pub(super) fn reaches_highest(self) -> bool
+        ensures value { result ≡ (self.last + 1 == 2 ^ self.places) }
+    {
+        self.last + 1 == self.limit()
+    }
+
+    // The places that remain behind the digits that both numbers begin with.
+    pub(super) fn places_apart(self) -> u32
+        ensures bound { result ≤ self.places }
+        ensures alike_before { self.first / 2 ^ result ≡ self.last / 2 ^ result }
+        ensures apart { 2 ^ result ≤ 2 * bit_xor self.first self.last + 1 }
+    {
+        64 - (self.first ^ self.last).leading_zeros()
+    }
+
+    // The ends by their last places.
+    pub(super) fn last_places(self, places: u32) -> Ends
+        requires fewer { places ≤ self.places }
+        ensures places { result.places ≡ places }
+        ensures first { result.first ≡ self.first % 2 ^ places }
+        ensures last { result.last ≡ self.last % 2 ^ places }
+    {
+        let limit = 1u64 << places;
+        Ends {
+            places,
+            first: self.first % limit,
+            last: self.last % limit,
         }
     }
 
-    // Adds a row for each 1 in the count, first place to last: the digits before it, then 0, then dashes. So the list
-    // is full once it has as many rows as the count has ones.
-    fn write_below(self, front: RowWords, rows: &mut RowList)
-        requires not_all { self.count < 2 ^ self.places }
-        requires free { Free self.places front }
-        requires room { HasRoom rows.old (end_words front self) }
-        ensures rows { Extends rows.old (end_words front self) rows.new }
+    // The ends without their first digits.
+    pub(super) fn behind_first_digits(self) -> Ends
+        requires some { 0 < self.places }
+        ensures split { Split self result }
     {
-        let full = rows.len() + self.count.count_ones() as usize;
-        let mut front = front;
-        for place in (0..self.places).rev() {
-            if rows.len() == full {
-                return;
-            }
-            if has_one(self.count, place) {
-                rows.push(extend(front, place, self.exchanged));
-                front = extend(front, place, !self.exchanged);
-            } else {
-                front = extend(front, place, self.exchanged);
-            }
-        }
+        self.last_places(self.places - 1)
     }
 }

@@ -1,39 +1,52 @@
-// A front: a row that has dashes at its last places, into which more digits go.
-ghost use Rattle.std.specs.Prelude.{◌≡◌, ◌+◌, ◌-◌, ◌%◌, ◌^◌, ◌<◌, ◌≤◌};
-ghost use Rattle.ranges.specs.Building.{Extended, Free};
+// How a row begins.
+ghost use Rattle.std.specs.Prelude.{◌≡◌, suc, ◌+◌, ◌^◌, ◌<◌, ◌≤◌};
 
-use super::stretch::Stretch;
 use rows::row_words::RowWords;
 
-// The front extended by a digit, in the place of a dash.
-pub(super) fn extend(front: RowWords, place: u32, digit: bool) -> RowWords
-    requires place_within { place < 32 }
-    requires value_free { front.value + 2 ^ place < 2 ^ 32 }
-    requires care_free { front.care + 2 ^ place < 2 ^ 32 }
-    ensures extended { Extended front result place digit }
-{
-    let bit = 1u32 << place;
-    let value = if digit {
-        front.value + bit
-    } else {
-        front.value
-    };
-    RowWords {
-        value,
-        care: front.care + bit,
-    }
+// A row whose last places are still free for more digits; as it is, it has dashes there. A front may be full, so what takes
+// a place asks for one.
+#[derive(Clone, Copy)]
+pub struct Front {
+    pub words: RowWords,
+    pub places: u32,
+    ghost places_within: { places ≤ 32 },
+    ghost value_free: { words.value + 2 ^ places ≤ 2 ^ 32 },
+    ghost care_free: { words.care + 2 ^ places ≤ 2 ^ 32 },
 }
 
-// The front with the digits of the first number, in the place of the dashes before its last `rest` places.
-pub(super) fn with_digits(front: RowWords, ends: Stretch, rest: u32) -> RowWords
-    requires fewer { rest ≤ ends.places }
-    requires free { Free ends.places front }
-    ensures value { result.value ≡ front.value + (ends.first - ends.first % 2 ^ rest) }
-    ensures care { result.care ≡ front.care + (2 ^ ends.places - 2 ^ rest) }
-    ensures free { Free rest result }
-{
-    let step = 1u64 << rest;
-    let value = front.value + (ends.first - ends.first % step) as u32;
-    let care = front.care + ((1u64 << ends.places) - step) as u32;
-    RowWords { value, care }
+impl Front {
+    ghost use Rattle.ranges.specs.Building.{Extended};
+
+    // The front with this digit in its first free place.
+    pub(super) fn with_digit(self, digit: bool) -> Front
+        requires some { 0 < self.places }
+        ensures extended { Extended self result digit }
+    {
+        let places = self.places - 1;
+        let bit = 1u32 << places;
+        let value = if digit {
+            self.words.value + bit
+        } else {
+            self.words.value
+        };
+        Front {
+            words: RowWords {
+                value,
+                care: self.words.care + bit,
+            },
+            places,
+        }
+    }
+
+    // The front with a dash in its first free place.
+    pub(super) fn with_dash(self) -> Front
+        requires some { 0 < self.places }
+        ensures words { result.words ≡ self.words }
+        ensures places { self.places ≡ suc result.places }
+    {
+        Front {
+            words: self.words,
+            places: self.places - 1,
+        }
+    }
 }

@@ -3,15 +3,13 @@
 
 mod across;
 mod beside;
+mod edge;
 mod ends;
 mod front;
 mod lead;
 mod lists;
 mod memory;
 pub mod range;
-mod round;
-mod run;
-mod straight;
 mod stretch;
 mod turned;
 pub mod witness;

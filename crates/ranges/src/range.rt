@@ -1,13 +1,13 @@
 // The rows of a range.
-ghost use Rattle.std.specs.Prelude.{◌≡◌, ◌^◌, ◌<◌, ◌≤◌, true, ◌++◌, map, length, drop, is_err, IfOk};
+ghost use Rattle.std.specs.Prelude.{◌≡◌, ◌≤◌, true, ◌++◌, map, length, drop, is_err, IfOk};
 ghost use Rattle.covers.specs.Rivals.{in_range, Shortest, TakesPrecisely};
-ghost use Rattle.covers.specs.Rules.{most_rows, rows_of_range, run_first, run_last};
+ghost use Rattle.covers.specs.Rules.{most_rows, rows_of_range};
 ghost use Rattle.rows.specs.Memory.{words_of};
 ghost use Rattle.ranges.specs.RangeRows.{range_answer, rows_in};
 ghost use Rattle.rows.specs.Widths.{places_of};
 
+use super::ends::Ends;
 use super::memory::hand_over;
-use super::run::rows_of_run;
 use super::stretch::Stretch;
 use arrayvec::ArrayVec;
 use rows::range::Range;
@@ -29,33 +29,8 @@ pub fn rows_of_range(width: Width, range: Range, memory: &mut [RowWords]) -> Res
     ensures exact { IfOk result (λ k. TakesPrecisely (places_of width) (rows_in (places_of width) k memory.new) (in_range range.first range.last)) }
     ensures shortest { IfOk result (λ k. Shortest (places_of width) (rows_in (places_of width) k memory.new)) }
 {
-    if !range.is_within(width) {
-        return Err(Refusal::NumberOutsideWidth);
-    }
+    let ends = Ends::of(width, range)?;
     let mut rows = ArrayVec::new();
-    rows_of_run(run_of(width, range), &mut rows);
+    Stretch::of(ends.run()).write(&mut rows);
     hand_over(&rows, memory)
-}
-
-// The range's one run; a range that goes round and leaves no number out is the whole circle.
-fn run_of(width: Width, range: Range) -> Stretch
-    requires first_within { range.first < 2 ^ places_of width }
-    requires last_within { range.last < 2 ^ places_of width }
-    ensures places { result.places ≡ places_of width }
-    ensures first { result.first ≡ run_first range.first range.last }
-    ensures last { result.last ≡ run_last (places_of width) range.first range.last }
-{
-    let places = width.places();
-    if range.first == range.last + 1 {
-        return Stretch {
-            places,
-            first: 0,
-            last: width.limit() - 1,
-        };
-    }
-    Stretch {
-        places,
-        first: range.first,
-        last: range.last,
-    }
 }

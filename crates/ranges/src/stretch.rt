@@ -1,71 +1,108 @@
-// The ends of a range as numbers of some places.
-ghost use Rattle.std.specs.Prelude.{◌≡◌, ◌+◌, ◌-◌, ◌%◌, ◌^◌, ◌<◌, ◌≤◌, true, false, ◌==◌};
+// The rows of a run.
+ghost use Rattle.std.specs.Prelude.{◌≡◌, ◌<◌, ◌≤◌};
 
-use super::ends::End;
+use super::across::Across;
+use super::ends::Ends;
+use super::front::Front;
+use super::lead::Lead;
+use super::lists::RowList;
+use rows::digit::has_one;
+use rows::row_words::RowWords;
 
-// From a first number to a last number; whether straight or round, or with a digit before each, is up to who has it.
+// The numbers from a first up the circle to a last, behind a front.
 #[derive(Clone, Copy)]
 pub struct Stretch {
-    pub places: u32,
-    pub first: u64,
-    pub last: u64,
-    ghost places_within: { places ≤ 32 },
-    ghost first_within: { first < 2 ^ places },
-    ghost last_within: { last < 2 ^ places },
+    pub front: Front,
+    pub ends: Ends,
+    ghost fits: { front.places ≡ ends.places },
 }
 
 impl Stretch {
-    ghost use Rattle.ranges.specs.Building.{Split, Counts};
+    ghost use Rattle.arrayvec.specs.ArrayVec.{Extends};
+    ghost use Rattle.ranges.specs.Building.{HasRoom, Alone, Parted, stretch_words, straight_words, round_words};
 
-    // Whether the last number is the highest.
-    pub(super) fn reaches_highest(self) -> bool
-        ensures value { result ≡ (self.last + 1 == 2 ^ self.places) }
+    // The numbers with nothing before them.
+    pub(super) fn of(ends: Ends) -> Stretch
+        ensures alone { Alone ends result }
     {
-        self.last + 1 == 1u64 << self.places
+        let words = RowWords::default();
+        let places = ends.places;
+        let front = Front { words, places };
+        Stretch { front, ends }
     }
 
-    // The ends by their last places.
-    pub(super) fn last_places(self, places: u32) -> Stretch
-        requires fewer { places ≤ self.places }
-        ensures places { result.places ≡ places }
-        ensures first { result.first ≡ self.first % 2 ^ places }
-        ensures last { result.last ≡ self.last % 2 ^ places }
+    // Adds the rows.
+    pub(super) fn write(self, rows: &mut RowList)
+        requires room { HasRoom rows.old (stretch_words self) }
+        ensures rows { Extends rows.old (stretch_words self) rows.new }
     {
-        let limit = 1u64 << places;
-        Stretch {
-            places,
-            first: self.first % limit,
-            last: self.last % limit,
+        if self.ends.first <= self.ends.last {
+            self.write_straight(rows);
+        } else {
+            self.write_round(rows);
         }
     }
 
-    // The ends without their first digits.
-    pub(super) fn behind_first_digits(self) -> Stretch
-        requires some { 0 < self.places }
-        ensures split { Split self result }
+    // Adds the rows of first to last.
+    fn write_straight(self, rows: &mut RowList)
+        requires ordered { self.ends.first ≤ self.ends.last }
+        requires room { HasRoom rows.old (straight_words self) }
+        ensures rows { Extends rows.old (straight_words self) rows.new }
     {
-        self.last_places(self.places - 1)
-    }
-
-    // The numbers from the first on, the highest of so many places.
-    pub(super) fn from_first(self) -> End
-        ensures numbers { Counts result self.places (2 ^ self.places - self.first) true }
-    {
-        End {
-            places: self.places,
-            count: (1u64 << self.places) - self.first,
-            exchanged: true,
+        let Stretch { front, ends } = self.behind_shared_digits();
+        if ends.places == 0 {
+            rows.push(front.words);
+        } else {
+            let lead = Lead::behind(front, false);
+            let ends = ends.behind_first_digits();
+            Across { lead, ends }.write(rows);
         }
     }
 
-    // The numbers up to the last, the lowest of so many places.
-    pub(super) fn to_last(self) -> End
-        ensures numbers { Counts result self.places (self.last + 1) false }
+    // The shorter stretch behind the digits that both ends share, which go before each of its rows.
+    fn behind_shared_digits(self) -> Stretch
+        requires ordered { self.ends.first ≤ self.ends.last }
+        ensures same { straight_words self ≡ straight_words result }
+        ensures parted { Parted result.ends }
     {
-        End {
-            places: self.places,
-            count: self.last + 1,
-            exchanged: false,
+        let Stretch { front, ends } = self;
+        let apart = ends.places_apart();
+        let rest = ends.last_places(apart);
+        let words = RowWords {
+            value: front.words.value + (ends.first - rest.first) as u32,
+            care: front.words.care + (ends.limit() - rest.limit()) as u32,
+        };
+        let places = rest.places;
+        let front = Front { words, places };
+        Stretch { front, ends: rest }
+    }
+
+    // Adds the rows of first to the highest number and of 0 to last.
+    fn write_round(self, rows: &mut RowList)
+        requires round { self.ends.last < self.ends.first }
+        requires room { HasRoom rows.old (round_words self) }
+        ensures rows { Extends rows.old (round_words self) rows.new }
+    {
+        let Stretch { front, ends } = self;
+        let rest = ends.behind_first_digits();
+        let place = rest.places;
+        match (has_one(ends.first, place), has_one(ends.last, place)) {
+            (false, _) => {
+                // both ends begin with 0: all that begin with 1 are in
+                rows.push(front.with_digit(true).words);
+                let front = front.with_digit(false);
+                Stretch { front, ends: rest }.write_round(rows);
+            }
+            (true, true) => {
+                // both ends begin with 1: all that begin with 0 are in
+                rows.push(front.with_digit(false).words);
+                let front = front.with_digit(true);
+                Stretch { front, ends: rest }.write_round(rows);
+            }
+            (true, false) => {
+                let lead = Lead::behind(front, true);
+                Across { lead, ends: rest }.write(rows);
+            }
         }
     }
 }

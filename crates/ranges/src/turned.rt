@@ -1,5 +1,5 @@
 // A number with one digit turned, and all such numbers of some places.
-ghost use Rattle.std.specs.Prelude.{◌≡◌, ◌^◌, ◌<◌, ◌≤◌};
+ghost use Rattle.std.specs.Prelude.{◌≡◌, ◌<◌, ◌≤◌};
 ghost use Rattle.arrayvec.specs.ArrayVec.{Extends};
 ghost use Rattle.ranges.specs.Building.{HasRoom};
 ghost use Rattle.covers.specs.WitnessNumbers.{turned, each_turned};
@@ -9,22 +9,15 @@ use rows::digit::has_one;
 
 // The number with the other digit at the place.
 pub(super) fn with_digit_turned(number: u64, place: u32) -> u64
-    requires place_within { place < 32 }
-    requires number_within { number < 2 ^ 32 }
+    requires place_within { place < 64 }
     ensures value { result ≡ turned place number }
 {
-    let step = 1u64 << place;
-    if has_one(number, place) {
-        number - step
-    } else {
-        number + step
-    }
+    number ^ (1u64 << place)
 }
 
 // Adds the number turned at each of the last places where it has a 1, or has none.
 pub(super) fn write_each_turned(number: u64, places: u32, one: bool, numbers: &mut NumberList)
-    requires places_within { places ≤ 32 }
-    requires number_within { number < 2 ^ 32 }
+    requires places_within { places ≤ 64 }
     requires room { HasRoom numbers.old (each_turned one places number) }
     ensures numbers { Extends numbers.old (each_turned one places number) numbers.new }
 {

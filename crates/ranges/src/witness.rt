@@ -10,6 +10,7 @@ ghost use Rattle.ranges.specs.RangeRows.{range_answer};
 ghost use Rattle.rows.specs.Widths.{places_of};
 
 use super::beside::Beside;
+use super::ends::Ends;
 use super::lists::NumberList;
 use super::memory::hand_over;
 use arrayvec::ArrayVec;
@@ -29,27 +30,29 @@ pub fn witness_of_range(width: Width, range: Range, memory: &mut [u64]) -> Resul
     ensures parted { IfOk result (λ k. Pairs (Parted (places_of width) (in_range range.first range.last)) (take k memory.new)) }
     ensures witness { IfOk result (λ k. Witness (places_of width) (in_range range.first range.last) (take k memory.new)) }
 {
-    if !range.is_within(width) {
-        return Err(Refusal::NumberOutsideWidth);
-    }
+    let ends = Ends::of(width, range)?;
     let mut numbers = ArrayVec::new();
-    write_numbers(width, range, &mut numbers);
+    write_numbers(ends, &mut numbers);
     hand_over(&numbers, memory)
 }
 
 // Adds the numbers of the range: of the whole circle one, else those beside the numbers before and after the range.
-fn write_numbers(width: Width, range: Range, numbers: &mut NumberList)
-    requires first_within { range.first < 2 ^ places_of width }
-    requires last_within { range.last < 2 ^ places_of width }
-    requires room { HasRoom numbers.old (numbers_of_range (places_of width) range.first range.last) }
-    ensures numbers { Extends numbers.old (numbers_of_range (places_of width) range.first range.last) numbers.new }
+fn write_numbers(ends: Ends, numbers: &mut NumberList)
+    requires room { HasRoom numbers.old (numbers_of_range ends.places ends.first ends.last) }
+    ensures numbers { Extends numbers.old (numbers_of_range ends.places ends.first ends.last) numbers.new }
 {
-    let limit = width.limit();
-    let before = (range.first + limit - 1) % limit;
-    let after = (range.last + 1) % limit;
-    if after == range.first {
-        numbers.push(range.first);
+    let limit = ends.limit();
+    // one line each, as in the steps of the run table; a call of a lower crate would be no shorter
+    let before = (ends.first + limit - 1) % limit;
+    let after = (ends.last + 1) % limit;
+    if after == ends.first {
+        numbers.push(ends.first);
     } else {
-        Beside { before, after }.write(width.places(), numbers);
+        let beside = Beside {
+            before,
+            after,
+            places: ends.places,
+        };
+        beside.write(numbers);
     }
 }

@@ -4,13 +4,6 @@ use Rattle.ranges.proofs.BesideLists.{each_at_one, each_at_other}
 use Rattle.ranges.proofs.Adding.{moved}
 use Rattle.ranges.proofs.turned.write_each_turned.Goals as goal
 
-pub push-requires : goal.push-requires
-push-requires c =
-    let L = c.loop-place in
-    let k = ap length (each_at_one L.place c.loop-place-test.true c.args.one c.has_one.result c.args.number c.has_one.ensures.value c.if-has_one-one.true) in
-    let room = L.invariant.room in
-    omega arith
-
 pub loop-place-preserved-then-has_one-one : goal.loop-place-preserved-then-has_one-one
 loop-place-preserved-then-has_one-one c =
     let L = c.loop-place in
