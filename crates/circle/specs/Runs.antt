@@ -1,8 +1,8 @@
 -- The runs of a set of numbers on the circle of 2 ^ n numbers, on which 0 follows 2 ^ n - 1.
-use Rattle.std.specs.Prelude.{ℕ, zero, suc, ◌+◌, ◌-◌, ◌%◌, ◌^◌, Bool, true, cond, not, ◌&&◌, List, [], ◌∷◌, ◌++◌, map}
+use Rattle.std.specs.Prelude.{ℕ, zero, suc, ◌+◌, ◌-◌, ◌%◌, ◌^◌, Bool, true, cond, not, ◌&&◌, List, [], ◌∷◌, ◌++◌, map, length, Some, None, Option, nat_lt, slice_index_or}
 use Rattle.covers.specs.Rivals.{NumberSet}
 
--- the neighbours of x on the circle
+-- the neighbours of x on the circle; `covers/specs/WitnessNumbers` has them in other sums, on which its proofs stand
 abbrev pub before : ℕ → ℕ → ℕ
 before n x = (x + (2 ^ n - 1)) % 2 ^ n
 
@@ -44,3 +44,7 @@ last_from n S f = climb (2 ^ n) n S f
 -- and otherwise one begins at each number of the set that follows a number outside it
 unfoldable pub runs : ℕ → NumberSet → List (ℕ × ℕ)
 runs n S = cond (whole n S) ((0, 2 ^ n - 1) ∷ []) (map (λ f. (f, last_from n S f)) (passing (begins n S) (2 ^ n)))
+
+-- both ends of the run at an index, or nothing beyond the last
+abbrev pub run_at : List (ℕ × ℕ) → ℕ → Option (ℕ × ℕ)
+run_at list i = cond (nat_lt i (length list)) (Some (slice_index_or list i (0, 0))) None

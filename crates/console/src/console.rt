@@ -66,7 +66,7 @@ impl<D: RowDevice> Console<D> {
         let mut text = String::new(heap);
         // A slot's row is asked for by the slot's index.
         for slot in 0..self.filter.slot_count() {
-            if let Ok(Some(row)) = self.filter.report_slot(slot) {
+            if let Some(row) = self.filter.report_slot(slot).unwrap() {
                 text.push_str(row_line(heap, self.filter.width(), row)?.as_str())?;
             }
         }

@@ -22,11 +22,6 @@ previous u = mirror (next (mirror u))
 abbrev pub within : Digits → Digits → Digits → Bool
 within a b u = leq a u && leq u b
 
-abbrev pub between : Digits → Digits → Digits → Bool
-between a b [] = false
-between a b (false ∷ u) = leq a u
-between a b (true ∷ u) = leq u b
-
 abbrev pub outer : Digits → Digits → Digits → Bool
 outer f l u = leq f u || leq u l
 

@@ -15,6 +15,7 @@ use Rattle.covers.specs.Symbols.{Symbols, takes}
 use Rattle.covers.specs.Words.{value_word, care_word, symbols}
 use Rattle.covers.proofs.RowWords.{symbols_back, value_word_fits, care_word_fits, words_take, words_back, clean_word}
 use Rattle.device.specs.declared.column.Column.{Column}
+use Rattle.device.specs.declared.slot_set.SlotSet.{SlotSet}
 use Rattle.device.specs.States.{Slot, slot_takes, some_slot_takes}
 use Rattle.device.specs.MadeRows.{row_made}
 use Rattle.device.specs.Columns.{admitting_symbol, column_symbol, one_more, blank_column, slot_symbols, slot_with, row_symbol, column_slot, column_slots}
@@ -27,7 +28,7 @@ use Rattle.device.proofs.BitSets.{digit_beyond, none_zero}
 abbrev pub admitted : ℕ → List Column → ℕ → ℕ → Bool
 admitted zero columns slot x = true
 admitted (suc m) columns slot x =
-    (cond (digit m x) (digit slot (get_or columns m blank_column).ones) (digit slot (get_or columns m blank_column).zeros) && admitted m columns slot x)
+    (cond (digit m x) (digit slot (get_or columns m blank_column).ones.bits) (digit slot (get_or columns m blank_column).zeros.bits) && admitted m columns slot x)
 
 abbrev content_takes : Option Symbols → Digits → Bool
 content_takes (Some r) u = takes r u
@@ -40,8 +41,8 @@ ends false = refl
 admitted_content : (n : ℕ) (columns : List Column) (slot x : ℕ) → content_takes (slot_symbols n columns slot) (digits n x) ≡ admitted n columns slot x
 admitted_content zero columns slot x = refl
 admitted_content (suc m) columns slot x =
-    go (digit slot c.zeros) (digit slot c.ones) (digit m x) (slot_symbols m columns slot) ∙
-    ap (λ b. cond (digit m x) (digit slot c.ones) (digit slot c.zeros) && b) (admitted_content m columns slot x)
+    go (digit slot c.zeros.bits) (digit slot c.ones.bits) (digit m x) (slot_symbols m columns slot) ∙
+    ap (λ b. cond (digit m x) (digit slot c.ones.bits) (digit slot c.zeros.bits) && b) (admitted_content m columns slot x)
   where
     c : Column
     c = get_or columns m blank_column
@@ -76,17 +77,17 @@ column_takes n columns slot x =
     content_slot n (slot_symbols n columns slot) x (slot_symbols_count n columns slot) ∙ admitted_content n columns slot x
 
 -- a column more
-pub column_more : (i place x slots set count : ℕ) (columns : List Column) (tested : Bool) →
+pub column_more : (i place x slots count : ℕ) (set : SlotSet) (columns : List Column) (tested : Bool) →
     digit i slots ≡ (ltb i count && admitted place columns i x) → tested ≡ digit place x →
     set ≡ cond tested (get_or columns place blank_column).ones (get_or columns place blank_column).zeros →
-    (digit i slots && digit i set) ≡ (ltb i count && admitted (place + 1) columns i x)
-column_more i place x slots set count columns tested h e s =
+    (digit i slots && digit i set.bits) ≡ (ltb i count && admitted (place + 1) columns i x)
+column_more i place x slots count set columns tested h e s =
     let c = get_or columns place blank_column in
-    ap₂ (λ (p q : Bool). p && q) h (ap (digit i) (s ∙ ap (λ (b : Bool). cond b c.ones c.zeros) e) ∙ through (digit place x) c.ones c.zeros) ∙
-    turned (ltb i count) (admitted place columns i x) (cond (digit place x) (digit i c.ones) (digit i c.zeros)) ∙
+    ap₂ (λ (p q : Bool). p && q) h (ap (λ (k : SlotSet). digit i k.bits) (s ∙ ap (λ (b : Bool). cond b c.ones c.zeros) e) ∙ through (digit place x) c.ones c.zeros) ∙
+    turned (ltb i count) (admitted place columns i x) (cond (digit place x) (digit i c.ones.bits) (digit i c.zeros.bits)) ∙
     ap (λ (k : ℕ). ltb i count && admitted k columns i x) (sym (add-one place))
   where
-    through : (b : Bool) (o z : ℕ) → digit i (cond b o z) ≡ cond b (digit i o) (digit i z)
+    through : (b : Bool) (o z : SlotSet) → digit i (cond b o z).bits ≡ cond b (digit i o.bits) (digit i z.bits)
     through true o z = refl
     through false o z = refl
 

@@ -7,9 +7,10 @@ use Rattle.covers.specs.Symbols.{takes, list_takes}
 use Rattle.covers.proofs.RowWords.{words_take}
 use Rattle.rows.specs.declared.row.Row.{Row}
 use Rattle.device.specs.States.{Slot, SlotWithin, row_takes, some_slot_takes}
-use Rattle.device.specs.SymbolLaws.{row_symbols, rows_in}
+use Rattle.device.specs.SymbolLaws.{rows_in}
+use Rattle.rows.specs.Memory.{symbols_of}
 
-pub row_by_symbols : (n : ℕ) (r : Row) (x : ℕ) → r.care < 2 ^ n → row_takes r x ≡ takes (row_symbols n r) (digits n x)
+pub row_by_symbols : (n : ℕ) (r : Row) (x : ℕ) → r.care < 2 ^ n → row_takes r x ≡ takes (symbols_of n r) (digits n x)
 row_by_symbols n r x h =
     let l = and_le_r r.value r.care in
     let e = r.clean in

@@ -3,16 +3,12 @@ use Rattle.std.specs.Prelude.{ℕ, ◌^◌, Bool, cond, length, Some, None, Ok, 
 use Rattle.rows.specs.declared.refusal.Refusal.{Refusal}
 use Rattle.rows.specs.declared.refusal.Refusal.TheVariants.{NumberOutsideWidth, NoSuchSlot, RowOutsideWidth}
 use Rattle.rows.specs.declared.row.Row.{Row}
+use Rattle.rows.specs.Refusals.{if_granted}
 use Rattle.device.specs.States.{Slot, DeviceState, says}
 
 -- a slot is written, all else stays
 abbrev pub with_slot : DeviceState → ℕ → Slot → DeviceState
 with_slot s slot content = record { width = s.width; slots = slice_set s.slots slot content; muted = s.muted }
-
--- a call that is refused changes nothing
-abbrev pub if_granted : {X : Type 0} → Result X Refusal → DeviceState → DeviceState → DeviceState
-if_granted (Ok x) changed same = changed
-if_granted (Err e) changed same = same
 
 abbrev pub put_answer : DeviceState → ℕ → Row → Result (Unit {0}) Refusal
 put_answer s slot row =

@@ -7,6 +7,7 @@ use Rattle.covers.specs.Digits.{digit}
 use Rattle.covers.specs.Symbols.{Symbols}
 use Rattle.covers.specs.Words.{value_word, care_word, symbol_at}
 use Rattle.device.specs.declared.column.Column.{Column}
+use Rattle.device.specs.declared.slot_set.SlotSet.{SlotSet}
 use Rattle.device.specs.States.{Slot}
 use Rattle.device.specs.MadeRows.{row_made}
 
@@ -19,15 +20,18 @@ admitting_symbol false false = None
 
 -- the symbol of a slot in a column
 abbrev pub column_symbol : Column → ℕ → Option Symbol
-column_symbol c slot = admitting_symbol (digit slot c.zeros) (digit slot c.ones)
+column_symbol c slot = admitting_symbol (digit slot c.zeros.bits) (digit slot c.ones.bits)
 
 abbrev pub one_more : Option Symbol → Option Symbols → Option Symbols
 one_more (Some s) (Some r) = Some (s ∷ r)
 one_more (Some s) None = None
 one_more None content = None
 
+abbrev pub no_slots : SlotSet
+no_slots = record { bits = 0 }
+
 abbrev pub blank_column : Column
-blank_column = record { zeros = 0; ones = 0 }
+blank_column = record { zeros = no_slots; ones = no_slots }
 
 -- the symbols of a slot in the last n columns, or nothing if it admits no digit in one of them
 abbrev pub slot_symbols : ℕ → List Column → ℕ → Option Symbols

@@ -1,6 +1,7 @@
 // The column table: a device that keeps its slots by columns.
-ghost use Rattle.std.specs.Prelude.{◌≡◌, ℕ, ◌<◌, ◌≤◌, min, ◌&&◌, if◌then◌else◌, nat_eq, nat_lt, slice_index_or};
+ghost use Rattle.std.specs.Prelude.{◌≡◌, ℕ, ◌<◌, ◌≤◌, min, ◌&&◌, if◌then◌else◌, nat_eq, nat_lt, slice_index_or, IfOk, IfErr};
 ghost use Rattle.covers.specs.Digits.{digit};
+ghost use Rattle.rows.specs.declared.refusal.Refusal.TheVariants.{NoSuchSlot};
 ghost use Rattle.rows.specs.Widths.{places_of};
 ghost use Rattle.device.specs.States.{blank_state, slot_takes};
 ghost use Rattle.device.specs.Columns.{column_symbol, column_slot, row_symbol, blank_column};
@@ -8,6 +9,8 @@ ghost use Rattle.device.specs.Columns.{column_symbol, column_slot, row_symbol, b
 use super::checks::{check_number, check_row, check_slot};
 use super::column::Column;
 use super::device::{MOST_SLOTS, RowDevice};
+use super::slot_set::SlotSet;
+use super::table_slot::TableSlot;
 use covers::symbol::Symbol;
 use rows::digit::has_one;
 use rows::refusal::Refusal;
@@ -40,22 +43,32 @@ impl ColumnTable {
         }
     }
 
+    // The slot of this index, refused if there are not so many slots.
+    fn check_slot(&self, index: usize) -> Result<TableSlot, Refusal>
+        ensures ok { IfOk result (λ slot. (slot.index ≡ index) × (index < self.now.count)) }
+        ensures refusal { IfErr result (λ e. (e ≡ NoSuchSlot) × (self.now.count ≤ index)) }
+    {
+        check_slot(index, self.count)?;
+        Ok(TableSlot { index })
+    }
+
     // The slots whose row takes the number: the sets of its digits, intersected.
-    fn taking(&self, number: u64) -> u128
-        ensures value { (i : ℕ) → digit i result ≡ (nat_lt i self.now.count && slot_takes (column_slot (places_of self.now.width) self.now.columns i) number) }
+    fn taking(&self, number: u64) -> SlotSet
+        ensures value { (i : ℕ) → digit i result.bits ≡ (nat_lt i self.now.count && slot_takes (column_slot (places_of self.now.width) self.now.columns i) number) }
     {
         let places = self.width.places() as usize;
-        let mut slots = (1u128 << self.count) - 1;
+        let mut slots = SlotSet {
+            bits: (1 << self.count) - 1,
+        };
         for (place, column) in self.columns[..places].iter().enumerate() {
-            slots &= column.admitting(has_one(number, place as u32));
+            slots.intersect(column.admitting(has_one(number, place as u32)));
         }
         slots
     }
 
     // What lies in the slot, read column by column: nothing where a column has no symbol for it.
-    fn content(&self, slot: usize) -> Option<Row>
-        requires { slot < 128 }
-        ensures value { result ≡ column_slot (places_of self.now.width) self.now.columns slot }
+    fn content(&self, slot: TableSlot) -> Option<Row>
+        ensures value { result ≡ column_slot (places_of self.now.width) self.now.columns slot.index }
     {
         let places = self.width.places() as usize;
         let mut words = RowWords::default();
@@ -86,20 +99,20 @@ impl RowDevice for ColumnTable {
     ghost beneath = { λ _. tt };
 
     fn put(&mut self, slot: usize, row: Row) -> Result<(), Refusal> {
-        check_slot(slot, self.slot_count())?;
+        let slot = self.check_slot(slot)?;
         check_row(row, self.width)?;
         write(&mut self.columns, slot, Some(row));
         Ok(())
     }
 
     fn empty(&mut self, slot: usize) -> Result<(), Refusal> {
-        check_slot(slot, self.slot_count())?;
+        let slot = self.check_slot(slot)?;
         write(&mut self.columns, slot, None);
         Ok(())
     }
 
     fn read(&self, slot: usize) -> Result<Option<Row>, Refusal> {
-        check_slot(slot, self.slot_count())?;
+        let slot = self.check_slot(slot)?;
         Ok(self.content(slot))
     }
 
@@ -109,7 +122,7 @@ impl RowDevice for ColumnTable {
 
     fn ask(&self, number: u64) -> Result<bool, Refusal> {
         check_number(number, self.width)?;
-        Ok(!self.muted && self.taking(number) != 0)
+        Ok(!self.muted && !self.taking(number).is_empty())
     }
 
     fn width(&self) -> Width {
@@ -122,9 +135,8 @@ impl RowDevice for ColumnTable {
 }
 
 // Writes the row into the slot, column by column, or empties it.
-fn write(columns: &mut [Column; 32], slot: usize, row: Option<Row>)
-    requires { slot < 128 }
-    ensures value { (place i : ℕ) → place < 32 → column_symbol (slice_index_or columns.new place blank_column) i ≡ (if nat_eq i slot then row_symbol row place else column_symbol (slice_index_or columns.old place blank_column) i) }
+fn write(columns: &mut [Column; 32], slot: TableSlot, row: Option<Row>)
+    ensures value { (place i : ℕ) → place < 32 → column_symbol (slice_index_or columns.new place blank_column) i ≡ (if nat_eq i slot.index then row_symbol row place else column_symbol (slice_index_or columns.old place blank_column) i) }
 {
     for (place, column) in columns.iter_mut().enumerate() {
         column.write(slot, row.map(|row| row.symbol_at(place as u32)));

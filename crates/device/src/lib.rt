@@ -9,5 +9,7 @@ pub mod device;
 pub mod exchange;
 pub mod replay;
 pub mod slot_record;
+mod slot_set;
 pub mod slot_table;
+mod table_slot;
 mod theorems;

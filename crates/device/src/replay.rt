@@ -41,6 +41,7 @@ pub fn replay<D: RowDevice>(device: &mut D, exchanges: &mut [DeviceExchange])
     ensures answers { exchanges.new ≡ answered (D.RowDevice.state device.old) exchanges.old }
     ensures after { D.RowDevice.state device.new ≡ after_calls (D.RowDevice.state device.old) (calls_of exchanges.old) }
 {
+    // as in the replayed calls of a filter, whose answers follow from a ledger: one loop for both would be longer
     for exchange in exchanges.iter_mut() {
         exchange.answer = perform(device, exchange.call);
     }

@@ -91,7 +91,7 @@ impl RowDevice for SlotTable<'_> {
             return Ok(false);
         }
         let count = self.slot_count();
-        // the form that the project asks for: every filled slot is looked at in turn, by its index
+        // by index, since there may be more records than slots
         for (slot, record) in self.records.iter().enumerate() {
             if slot >= count {
                 break;

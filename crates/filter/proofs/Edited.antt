@@ -1,26 +1,31 @@
 -- An edit by the table of runs, and by the ledger.
-use Rattle.std.proofs.Common.{◌≡◌, ℕ, ◌<◌, ◌≤◌, Bool, true, false, length, Ok, Err, Result, sym, refl, ap, ◌∙◌, subst, arith}
+use Rattle.std.proofs.Common.{◌≡◌, ℕ, ◌<◌, ◌≤◌, Bool, true, false, ◌&&◌, eqb, length, Ok, Err, Result, sym, refl, ap, ◌∙◌, subst, ap₂, arith}
 use Rattle.std.specs.List.{AllByRecursion}
-use Rattle.std.proofs.lemmas.Bool.{le-leb, lt-leb, eq-eqb}
+use Rattle.std.proofs.lemmas.Bool.{le-leb, lt-leb}
 use Rattle.covers.specs.Rivals.{NumberSet}
+use Rattle.covers.specs.Rules.{rows_of_runs}
 use Rattle.covers.specs.Theorems.{Run}
 use Rattle.circle.specs.Runs.{runs}
 use Rattle.circle.proofs.Rows.{runs_untouched}
 use Rattle.rows.specs.declared.refusal.Refusal.{Refusal}
-use Rattle.rows.specs.declared.refusal.Refusal.TheVariants.{NumberOutsideWidth, TooManyRuns, TooManyRows}
+use Rattle.rows.specs.declared.refusal.Refusal.TheVariants.{NumberOutsideWidth, TooManyRuns}
 use Rattle.run_table.specs.declared.edit.Edit.{Edit}
 use Rattle.run_table.specs.declared.table.RunTable.{RunTable}
-use Rattle.run_table.specs.Answers.{EditAnswered}
-use Rattle.run_table.specs.Edits.{edit_in_width}
+use Rattle.run_table.specs.Answers.{EditAnswered, rows_of_set}
+use Rattle.run_table.specs.Edits.{edit_in_width, edited}
 use Rattle.run_table.specs.Tables.{TableOf, table_runs}
 use Rattle.device.specs.declared.device.RowDevice.{Ghosts}
+use Rattle.device.specs.States.{DeviceState}
 use Rattle.filter.specs.declared.filter.Filter.{Filter}
-use Rattle.filter.specs.Ledger.{Ledger, ledger_runs, ledger_rows, with_edit, token_fits, edit_answer, after_edit, if_granted}
+use Rattle.rows.specs.Refusals.{if_granted}
+use Rattle.filter.specs.Ledger.{Ledger, ledger_runs, ledger_rows, with_edit, token_fits, edit_answer, after_edit}
+use Rattle.filter.specs.Placement.{placed, with_placed}
+use Rattle.filter.specs.Standing.{Standing}
 use Rattle.filter.specs.StandsFor.{StandsFor}
 use Rattle.filter.proofs.Placed.{placed_length}
 
-pub token_fitting : (b : Ledger) (token : ℕ) → b.held ≡ true → token ≡ b.tag → token_fits b token ≡ true
-token_fitting b token h e = rw (h, eq-eqb token b.tag e)
+pub token_fitting : {D : Type 0} (d : Ghosts D) (f : Filter D d) (b : Ledger) → StandsFor d f b → (token : ℕ) → (f.held && eqb token f.tag) ≡ true → token_fits b token ≡ true
+token_fitting d f b s token h = ap₂ (λ m (t : ℕ). m && eqb token t) (sym s.held) (sym s.tag) ∙ h
 
 -- the answer to an edit whose token fits
 module _ (b : Ledger) (token : ℕ) (e : Edit) (fits : token_fits b token ≡ true) where
@@ -29,9 +34,6 @@ module _ (b : Ledger) (token : ℕ) (e : Edit) (fits : token_fits b token ≡ tr
 
   many_runs : edit_in_width b.width e ≡ true → 16 < length (ledger_runs (with_edit b e)) → edit_answer b token e ≡ Err TooManyRuns
   many_runs w h = rw (fits, w, lt-leb (length (ledger_runs (with_edit b e))) 16 h)
-
-  pub many_rows : edit_in_width b.width e ≡ true → length (ledger_runs (with_edit b e)) ≤ 16 → b.slots < length (ledger_rows (with_edit b e)) → edit_answer b token e ≡ Err TooManyRows
-  many_rows w h k = rw (fits, w, le-leb (length (ledger_runs (with_edit b e))) 16 h, lt-leb (length (ledger_rows (with_edit b e))) b.slots k)
 
   pub granted : edit_in_width b.width e ≡ true → length (ledger_runs (with_edit b e)) ≤ 16 → length (ledger_rows (with_edit b e)) ≤ b.slots →
       edit_answer b token e ≡ Ok (length (ledger_rows (with_edit b e)))
@@ -79,3 +81,31 @@ slots_known d f b s = ap length s.slots ∙ placed_length b.slots (ledger_rows b
 -- the runs of a table are proper
 pub table_proper : (n : ℕ) (S : NumberSet) (t : RunTable) → table_runs t ≡ runs n S → AllByRecursion (λ r. Run n r.0 r.1) (table_runs t)
 table_proper n S t e = subst (AllByRecursion (λ r. Run n r.0 r.1)) (sym e) (runs_untouched.proper n S)
+
+-- an edit that is granted, from what its calls promise: the answer is the ledger's, and the parts stand for its next state
+module _ {D : Type 0} (d : Ghosts D) (f : Filter D d) (b : Ledger) (s : StandsFor d f b) (token : ℕ) (e : Edit) (fits : token_fits b token ≡ true) (n : ℕ) (its_width : n ≡ (d.state f.device).width) (r : Result RunTable Refusal) (yes : (S : NumberSet) → TableOf n S f.runs → edit_in_width n e ≡ true → EditAnswered n e S r) (no : edit_in_width n e ≡ false → r ≡ Err NumberOutsideWidth) (t : RunTable) (is : r ≡ Ok t) where
+  pub edit_granted : (rows : ℕ) → ((S : NumberSet) → TableOf n S t → rows ≡ length (rows_of_set n S)) → (slots : ℕ) → slots ≡ length (d.state f.device).slots → rows ≤ slots →
+      (after : DeviceState) → (n ≡ (d.state f.device).width → AllByRecursion (λ q. Run n q.0 q.1) (table_runs t) → length (rows_of_runs n (table_runs t)) ≤ length (d.state f.device).slots → after ≡ with_placed (d.state f.device) (rows_of_runs n (table_runs t))) →
+      (edit_answer b token e ≡ Ok rows) × Standing after t f.held f.tag (with_edit b e)
+  edit_granted rows counted slots known room after placing =
+      let same = its_width ∙ s.width in
+      let now = table_grants b token e fits n same f.runs s.runs r yes no t is in
+      let S = edited e b.numbers in
+      let table = now.1 ∙ ap (λ k. runs k S) (sym same) in
+      let count = counted S table ∙ ap (λ k. length (rows_of_runs k (runs k S))) same in
+      let its_slots = slots_known d f b s in
+      let said = granted b token e fits now.0 now.2 (omega arith) in
+      let its_rows = ap₂ rows_of_runs same now.1 in
+      let long = ap length its_rows in
+      let moved = placing its_width (table_proper n S t table) (omega arith) in (
+        said ∙ ap Ok (sym count),
+        record {
+          width = ap (λ v. v.width) moved ∙ s.width;
+          muted = ap (λ v. v.muted) moved ∙ s.muted;
+          held = s.held;
+          tag = s.tag;
+          runs = now.1;
+          fit = omega arith;
+          slots = ap (λ v. v.slots) moved ∙ ap₂ placed its_slots its_rows;
+        },
+      )

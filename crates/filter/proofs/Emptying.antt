@@ -1,19 +1,15 @@
 -- Slots emptied one after the other.
-use Rattle.std.proofs.Common.{◌≡◌, ℕ, ◌+◌, ◌-◌, ◌<◌, ◌≤◌, min, [], ◌∷◌, ◌++◌, length, take, replicate, None, sym, ap, ◌∙◌, append-nil, arith}
-use Rattle.std.proofs.lemmas.List.{length-replicate, replicate_more, drop_all}
+use Rattle.std.proofs.Common.{◌≡◌, ℕ, ◌+◌, ◌-◌, ◌<◌, ◌≤◌, min, [], ◌∷◌, length, replicate, None, sym, ap, ◌∙◌, arith}
+use Rattle.std.proofs.lemmas.List.{length-replicate, replicate_more}
 use Rattle.std.proofs.lemmas.Bool.{lt-ltb}
 use Rattle.rows.specs.Memory.{written}
-use Rattle.rows.proofs.Writing.{written_one, written_join, length_written, written_none}
+use Rattle.rows.proofs.Writing.{written_one, written_join, length_written}
 use Rattle.device.specs.States.{Slot, DeviceState}
 use Rattle.device.specs.Answers.{with_slot, after_empty}
-use Rattle.filter.specs.Placement.{emptied}
 
 -- so many slots emptied from one on
 abbrev pub emptied_slots : DeviceState → ℕ → ℕ → DeviceState
 emptied_slots s from k = record { width = s.width; slots = written s.slots from (replicate k None); muted = s.muted }
-
-emptied_none : (s : DeviceState) (from : ℕ) → emptied_slots s from 0 ≡ s
-emptied_none s from = ap (λ l. record { width = s.width; slots = l; muted = s.muted }) (written_none s.slots from)
 
 empty_slot : (s : DeviceState) (slot : ℕ) → slot < length s.slots → after_empty s slot ≡ with_slot s slot None
 empty_slot s slot h = rw (lt-ltb slot (length s.slots) h)
@@ -37,20 +33,9 @@ emptied_more s from slot le h =
 abbrev pub emptied_count : DeviceState → ℕ → ℕ → ℕ
 emptied_count s from slot = min slot (length s.slots) - from
 
-pub emptied_start : (s : DeviceState) (from : ℕ) → s ≡ emptied_slots s from (emptied_count s from from)
-emptied_start s from = let z : min from (length s.slots) - from ≡ 0 = omega arith in sym (ap (emptied_slots s from) z ∙ emptied_none s from)
-
 pub emptied_step : (s : DeviceState) (from slot : ℕ) → from ≤ slot → slot < length s.slots →
     after_empty (emptied_slots s from (emptied_count s from slot)) slot ≡ emptied_slots s from (emptied_count s from (slot + 1))
 emptied_step s from slot le h =
     let a : min slot (length s.slots) - from ≡ slot - from = omega arith in
     let b : slot + 1 - from ≡ min (slot + 1) (length s.slots) - from = omega arith in
     ap (λ k. after_empty (emptied_slots s from k) slot) a ∙ emptied_more s from slot le h ∙ ap (emptied_slots s from) b
-
-pub emptied_end : (s : DeviceState) (from slot : ℕ) → length s.slots ≤ slot → emptied_slots s from (emptied_count s from slot) ≡ emptied s from
-emptied_end s from slot h =
-    let k : min slot (length s.slots) - from ≡ length s.slots - from = omega arith in
-    let long = length-replicate {A = Slot} (length s.slots - from) None in
-    ap (emptied_slots s from) k ∙
-    ap (λ l. record { width = s.width; slots = l; muted = s.muted })
-    (ap (λ l. take from s.slots ++ l) (ap (λ l. replicate (length s.slots - from) None ++ l) (drop_all (from + length (replicate {A = Slot} (length s.slots - from) None)) s.slots (omega arith)) ∙ append-nil (replicate (length s.slots - from) None)))

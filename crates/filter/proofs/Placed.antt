@@ -63,13 +63,6 @@ placed_length count rows h =
     let c = length-replicate {A = Slot} (count - length rows) None in
     omega arith
 
--- a device with these rows tells the very row
-pub read_by_ledger : (b : Ledger) (s : DeviceState) → length (ledger_rows b) ≤ b.slots → s.slots ≡ placed b.slots (ledger_rows b) → (slot : ℕ) →
-    device.read_answer s slot ≡ slot_report b slot
-read_by_ledger b s fit p slot =
-    ap (λ l. cond (ltb slot (length l)) (Ok (get_or l slot None)) (Err NoSuchSlot)) p ∙
-    ap (λ k. cond (ltb slot k) (Ok (get_or (placed b.slots (ledger_rows b)) slot None)) (Err NoSuchSlot)) (placed_length b.slots (ledger_rows b) fit)
-
 -- the report of a slot, by its refusal only
 pub report_compared : (b : Ledger) (slot : ℕ) → granted_only (slot_report b slot) ≡ slot_answer b slot
 report_compared b slot = go (ltb slot b.slots)

@@ -1,7 +1,7 @@
 -- The rows of several runs placed one after the other.
-use Rattle.std.proofs.Common.{◌≡◌, ℕ, zero, suc, ◌+◌, ◌-◌, ◌<◌, ◌≤◌, List, [], ◌∷◌, ◌++◌, map, length, get_or, take, drop, replicate, None, sym, refl, ap, ◌∙◌, ap₂, append-nil, le_of_suc-le-suc, not-suc-le-zero, arith}
+use Rattle.std.proofs.Common.{◌≡◌, ℕ, zero, suc, ◌+◌, ◌<◌, ◌≤◌, List, [], ◌∷◌, ◌++◌, map, length, get_or, take, drop, sym, refl, ap, ◌∙◌, ap₂, append-nil, le_of_suc-le-suc, not-suc-le-zero, arith}
 use Rattle.std.specs.List.{AllByRecursion}
-use Rattle.std.proofs.lemmas.List.{get_or-map, append_assoc, length-map, length-append, map-append, take-append-drop, take_at, take_more}
+use Rattle.std.proofs.lemmas.List.{get_or-map, append_assoc, length-map, length-append, map-append, take-append-drop, take_more}
 use Rattle.covers.specs.Symbols.{Symbols}
 use Rattle.covers.specs.Rules.{rows_of_run, rows_of_runs, rows_of_range}
 use Rattle.covers.specs.Theorems.{Run}
@@ -11,8 +11,8 @@ use Rattle.run_table.specs.Tables.{ranges_of}
 use Rattle.run_table.proofs.Tables.{no_run}
 use Rattle.covers.proofs.WitnessCounts.{range_proper}
 use Rattle.rows.proofs.Writing.{written_join, length_written}
-use Rattle.device.specs.States.{Slot, DeviceState}
-use Rattle.filter.specs.Placement.{rows_at, slot_with, with_slots, with_placed, emptied}
+use Rattle.device.specs.States.{DeviceState}
+use Rattle.filter.specs.Placement.{rows_at, slot_with, with_slots}
 
 pub runs_append : (n : ℕ) (xs ys : List (ℕ × ℕ)) → rows_of_runs n (xs ++ ys) ≡ rows_of_runs n xs ++ rows_of_runs n ys
 runs_append n [] ys = refl
@@ -58,14 +58,6 @@ slots_join s done more h =
 
 pub slots_length : (s : DeviceState) (done : List Symbols) → length done ≤ length s.slots → length (with_slots s 0 (map slot_with done)).slots ≡ length s.slots
 slots_length s done h = let k = length-map done slot_with in length_written (map slot_with done) s.slots 0 (omega arith)
-
--- nothing in the slots after the rows
-pub slots_rest : (s : DeviceState) (rows : List Symbols) → length rows ≤ length s.slots → emptied (with_slots s 0 (map slot_with rows)) (length rows) ≡ with_placed s rows
-slots_rest s rows h =
-    let size = slots_length s rows h in
-    ap (λ l. record { width = s.width; slots = l; muted = s.muted })
-    (ap₂ (λ (a : List Slot) (k : ℕ). a ++ replicate (k - length rows) None)
-    (take_at (map slot_with rows) (drop (0 + length (map slot_with rows)) s.slots) (length rows) (length-map rows slot_with)) size)
 
 -- the rows of the run at an index, as those of a range
 pub rows_at_range : (n : ℕ) (rs : List (ℕ × ℕ)) (i f l : ℕ) → AllByRecursion (λ r. Run n r.0 r.1) rs → i < length rs → get_or rs i (0, 0) ≡ (f, l) → rows_of_range n f l ≡ rows_at n rs i

@@ -1,7 +1,7 @@
 -- Rows put into slots one after the other.
 use Rattle.std.proofs.Common.{◌≡◌, ℕ, zero, suc, ◌+◌, ◌^◌, ◌<◌, ◌≤◌, List, [], ◌∷◌, map, length, get_or, take, set, Some, sym, refl, ap, ◌∙◌, subst, le_of_suc-le-suc, not-suc-le-zero, arith}
 use Rattle.std.specs.List.{AllByRecursion}
-use Rattle.std.proofs.lemmas.List.{length-map, length-take-le, map_more, take_all}
+use Rattle.std.proofs.lemmas.List.{length-map, length-take-le, map_more}
 use Rattle.std.proofs.lemmas.Bool.{lt-ltb}
 use Rattle.covers.specs.Symbols.{Symbols}
 use Rattle.covers.proofs.RowLengths.{Long}
@@ -10,14 +10,11 @@ use Rattle.rows.specs.declared.row.Row.{Row}
 use Rattle.rows.specs.declared.row_words.RowWords.{RowWords}
 use Rattle.rows.specs.Memory.{written}
 use Rattle.rows.specs.Memory.{words_of}
-use Rattle.rows.proofs.Writing.{written_one, written_join, length_written, written_none}
+use Rattle.rows.proofs.Writing.{written_one, written_join, length_written}
 use Rattle.device.specs.MadeRows.{row_made}
 use Rattle.device.specs.States.{Slot, DeviceState}
 use Rattle.device.specs.Answers.{with_slot, after_put}
 use Rattle.filter.specs.Placement.{slot_read, slot_with, with_slots}
-
-pub put_none : (s : DeviceState) (at : ℕ) → with_slots s at [] ≡ s
-put_none s at = ap (λ l. record { width = s.width; slots = l; muted = s.muted }) (written_none s.slots at)
 
 put_slot : (s : DeviceState) (slot : ℕ) (row : Row) → slot < length s.slots → row.care < 2 ^ s.width → after_put s slot row ≡ with_slot s slot (Some row)
 put_slot s slot row h k = rw (lt-ltb slot (length s.slots) h, lt-ltb row.care (2 ^ s.width) k)
@@ -44,9 +41,6 @@ put_more s at i rows d row narrow room h e =
     ap (λ j. written (written s.slots at (map slot_read (take i rows))) (at + j) (slot_read (get_or rows i d) ∷ [])) (sym k) ∙
     written_join (map slot_read (take i rows)) (slot_read (get_or rows i d) ∷ []) s.slots at (omega arith) ∙
     ap (written s.slots at) (sym (map_more slot_read rows i d h)))
-
-pub put_all : (rows : List RowWords) (i : ℕ) → length rows ≤ i → map slot_read (take i rows) ≡ map slot_read rows
-put_all rows i h = ap (map slot_read) (take_all i rows h)
 
 -- the rows of a list as words
 pub words_narrow : (n : ℕ) (rows : List Symbols) → Long n rows → AllByRecursion (λ w. w.care < 2 ^ n) (map words_of rows)

@@ -4,12 +4,12 @@ use Rattle.std.specs.Prelude.{ℕ, ◌^◌, Bool, true, false, cond, ◌&&◌, L
 use Rattle.covers.specs.Symbols.{Symbols}
 use Rattle.covers.specs.Rules.{rows_of_runs}
 use Rattle.covers.specs.Rivals.{NumberSet}
-use Rattle.circle.specs.Runs.{runs}
+use Rattle.circle.specs.Runs.{runs, run_at}
 use Rattle.rows.specs.declared.refusal.Refusal.{Refusal}
 use Rattle.rows.specs.declared.refusal.Refusal.TheVariants.{NumberOutsideWidth, NoSuchSlot, TooManyRuns, TooManyRows, FilterHeld, NotHeld}
+use Rattle.rows.specs.Refusals.{if_granted}
 use Rattle.run_table.specs.declared.edit.Edit.{Edit}
 use Rattle.run_table.specs.Edits.{edited, edit_in_width}
-use Rattle.run_table.specs.Tables.{run_at}
 
 -- what the ledger learns at the opening, the numbers that are held, and the mark
 pub record Ledger : Type 0 where
@@ -55,11 +55,7 @@ edit_answer b token e =
     (Err NumberOutsideWidth))
     (Err NotHeld)
 
--- a refused call changes nothing
-abbrev pub if_granted : {X : Type 0} → Result X Refusal → Ledger → Ledger → Ledger
-if_granted (Ok x) changed same = changed
-if_granted (Err e) changed same = same
-
+-- the ledger after each call: a refused one changes nothing
 abbrev pub after_hold : Ledger → Ledger
 after_hold b = if_granted (hold_answer b) (marked b true) b
 

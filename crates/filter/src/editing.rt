@@ -39,7 +39,7 @@ impl<D: RowDevice> Filter<D> {
         ensures untouched_when_refused { is_err result ≡ true → self.new ≡ self.old }
         ensures hold_stays { SameHold self.old self.new }
     {
-        if !self.held || token.tag != self.tag {
+        if !self.held_by(token) {
             return Err(Refusal::NotHeld);
         }
         let width = self.device.width();

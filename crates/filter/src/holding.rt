@@ -1,5 +1,5 @@
 // Holding and releasing a filter.
-ghost use Rattle.std.specs.Prelude.{◌≡◌, true, not, ◌&&◌, ◌==◌, is_err, Ok};
+ghost use Rattle.std.specs.Prelude.{◌≡◌, true, false, not, ◌&&◌, ◌==◌, is_err, Ok, IfOk};
 ghost use Rattle.filter.specs.Ledger.{Ledger, hold_answer, after_hold, release_answer, after_release};
 ghost use Rattle.filter.specs.StandsFor.{StandsFor};
 ghost use Rattle.filter.specs.Compared.{tag_of, refusal_of, HandedBack};
@@ -33,8 +33,9 @@ impl<D: RowDevice> Filter<D> {
         ensures handed_back_when_refused { HandedBack token result }
         ensures refused_unless_it_fits { is_err result ≡ not (self.old.held && token.tag == self.old.tag) }
         ensures granted { TokenOf self.old token → result ≡ Ok tt }
+        ensures free_when_granted { IfOk result (λ _. self.new.held ≡ false) }
     {
-        if !self.held || token.tag != self.tag {
+        if !self.held_by(&token) {
             return Err(RefusedRelease {
                 refusal: Refusal::NotHeld,
                 token,
@@ -44,5 +45,12 @@ impl<D: RowDevice> Filter<D> {
         self.device.mute(false);
         self.held = false;
         Ok(())
+    }
+
+    // Whether the filter is held and the token is its own.
+    pub(super) fn held_by(&self, token: &HoldToken) -> bool
+        ensures value { result ≡ (self.now.held && token.now.tag == self.now.tag) }
+    {
+        self.held && token.tag == self.tag
     }
 }

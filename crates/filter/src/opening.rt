@@ -43,6 +43,6 @@ pub(super) fn empty_from<D: RowDevice>(device: &mut D, from: usize)
     ensures after { D.RowDevice.state device.new ≡ emptied (D.RowDevice.state device.old) from }
 {
     for slot in from..device.slot_count() {
-        let _ = device.empty(slot);
+        device.empty(slot).unwrap();
     }
 }

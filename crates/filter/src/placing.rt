@@ -52,6 +52,7 @@ fn put_rows<D: RowDevice>(device: &mut D, rows: &[RowWords], at: usize)
     ensures after { AllByRecursion (λ w. w.care < 2 ^ (D.RowDevice.state device.old).width) rows.now → at + length rows.now ≤ length (D.RowDevice.state device.old).slots → D.RowDevice.state device.new ≡ with_slots (D.RowDevice.state device.old) at (map slot_read rows.now) }
 {
     for (i, words) in rows.iter().enumerate() {
+        // granted where `after` speaks: of rows of the width that fit the slots
         let _ = device.put(at + i, Row::from(*words));
     }
 }

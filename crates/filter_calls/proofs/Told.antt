@@ -2,7 +2,8 @@
 use Rattle.std.proofs.Common.{◌≡◌, ℕ, Bool, true, false, not, ◌&&◌, eqb, Some, None, Option, MatchOption, Ok, sym, ap, ◌∙◌, subst}
 use Rattle.std.proofs.lemmas.Bool.{eqb-false, ne_eqb}
 use Rattle.filter.specs.declared.hold_token.HoldToken.{HoldToken}
-use Rattle.filter.specs.Ledger.{Ledger, release_answer, after_release, marked, if_granted}
+use Rattle.rows.specs.Refusals.{if_granted}
+use Rattle.filter.specs.Ledger.{Ledger, release_answer, after_release, marked}
 use Rattle.filter.specs.StandsFor.{AtHand}
 use Rattle.filter_calls.specs.Replays.{token_has_tag}
 

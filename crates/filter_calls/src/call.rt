@@ -1,7 +1,11 @@
 // Calls to a filter as values, and their answers.
-ghost use Rattle.std.specs.Prelude.{◌≡◌, None};
+ghost use Rattle.std.specs.Prelude.{◌≡◌, None, Ok};
+ghost use Rattle.run_table.specs.declared.edit.Edit.TheVariants.{Add, Drop};
+ghost use Rattle.filter_calls.specs.declared.call.FilterCall.TheVariants.{Edit as edit_call};
+ghost use Rattle.filter_calls.specs.declared.call.FilterAnswer.TheVariants.{Released};
 
 use device::exchange::Exchange;
+use rows::range::Range;
 use rows::refusal::Refusal;
 use rows::row::Row;
 use run_table::edit::Edit;
@@ -16,6 +20,39 @@ pub enum FilterCall {
     Ask { number: u64 },
     ReportSlot { slot: usize },
     ReportRun { index: usize },
+}
+
+impl FilterCall {
+    // Adds a range, and shows a token of this tag.
+    pub fn add(tag: u64, range: Range) -> FilterCall
+        ensures value { result ≡ edit_call tag (Add range) }
+    {
+        FilterCall::Edit {
+            tag,
+            edit: Edit::Add(range),
+        }
+    }
+
+    // Drops a range, and shows a token of this tag.
+    pub fn drop(tag: u64, range: Range) -> FilterCall
+        ensures value { result ≡ edit_call tag (Drop range) }
+    {
+        FilterCall::Edit {
+            tag,
+            edit: Edit::Drop(range),
+        }
+    }
+
+    // The call before it is made: the place for its answer holds one that no call but a release gets.
+    pub fn unanswered(self) -> FilterExchange
+        ensures call { result.call ≡ self }
+        ensures answer { result.answer ≡ Ok Released }
+    {
+        FilterExchange {
+            call: self,
+            answer: Ok(FilterAnswer::Released),
+        }
+    }
 }
 
 // What a filter answers to a call that it grants; a token is told by its tag.

@@ -19,19 +19,15 @@ impl<D: RowDevice> HeldFilter<D> {
         ensures tag { result.token.tag ≡ tag }
     {
         let mut filter = Filter::open(device, tag);
-        match filter.hold() {
-            Ok(token) => HeldFilter { filter, token },
-            Err(_) => unreachable(),
-        }
+        let token = filter.hold().unwrap();
+        HeldFilter { filter, token }
     }
 
     // Releases the filter with its token, and gives its device back.
     pub(super) fn let_go(self) -> D {
         let HeldFilter { filter, token } = self;
         let mut filter = filter;
-        match filter.release(token) {
-            Ok(()) => filter.into_device(),
-            Err(_) => unreachable(),
-        }
+        filter.release(token).unwrap();
+        filter.into_device()
     }
 }

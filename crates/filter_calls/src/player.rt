@@ -60,6 +60,7 @@ impl<D: RowDevice> Player<D> {
     {
         let token = self.filter.hold()?;
         let tag = token.tag();
+        // an assignment would let go of a token that was there, which the language refuses; there is none
         match self.token.replace(token) {
             None => Ok(tag),
             Some(_) => unreachable(),
@@ -70,10 +71,8 @@ impl<D: RowDevice> Player<D> {
     fn edit(&mut self, tag: u64, edit: Edit) -> Result<usize, Refusal>
         ensures step { (b : Ledger) → StandsFor D.RowDevice self.old.filter b → (result ≡ edit_answer b tag edit) × StandsFor D.RowDevice self.new.filter (after_edit b tag edit) }
     {
-        if let Some(token) = &self.token {
-            if token.tag() == tag {
-                return self.filter.edit(token, edit);
-            }
+        if let Some(token) = self.token.as_ref().filter(|token| token.tag() == tag) {
+            return self.filter.edit(token, edit);
         }
         let another = HeldFilter::open(ColumnTable::new(self.filter.width(), 0), tag);
         let answer = self.filter.edit(&another.token, edit);
@@ -85,15 +84,12 @@ impl<D: RowDevice> Player<D> {
     fn release(&mut self, tag: u64) -> Result<(), RefusedCall>
         ensures step { (b : Ledger) → StandsFor D.RowDevice self.old.filter b → (result ≡ released_by tag (release_answer b tag)) × StandsFor D.RowDevice self.new.filter (after_release b tag) }
     {
-        if !self.has_token(tag) {
-            return Err(self.release_with_another(tag));
-        }
-        match self.token.take() {
-            Some(token) => match self.filter.release(token) {
-                Ok(()) => Ok(()),
-                Err(_) => unreachable(),
-            },
-            None => unreachable(),
+        match self.token.take_if(|token| token.tag() == tag) {
+            Some(token) => {
+                self.filter.release(token).unwrap();
+                Ok(())
+            }
+            None => Err(self.release_with_another(tag)),
         }
     }
 
@@ -106,31 +102,16 @@ impl<D: RowDevice> Player<D> {
             filter: other,
             token,
         } = HeldFilter::open(ColumnTable::new(self.filter.width(), 0), tag);
-        match self.filter.release(token) {
-            Ok(()) => unreachable(),
-            Err(refused) => {
-                let RefusedRelease { refusal, token } = refused;
-                let handed_back = Some(token.tag());
-                let _ = HeldFilter {
-                    filter: other,
-                    token,
-                }
-                .let_go();
-                RefusedCall {
-                    refusal,
-                    handed_back,
-                }
-            }
-        }
-    }
-
-    // Whether a token of this tag is at hand.
-    fn has_token(&self, tag: u64) -> bool
-        ensures value { result ≡ token_has_tag self.now.token tag }
-    {
-        match &self.token {
-            Some(token) => token.tag() == tag,
-            None => false,
+        let RefusedRelease { refusal, token } = self.filter.release(token).unwrap_err();
+        let handed_back = Some(token.tag());
+        let another = HeldFilter {
+            filter: other,
+            token,
+        };
+        let _ = another.let_go();
+        RefusedCall {
+            refusal,
+            handed_back,
         }
     }
 
@@ -141,12 +122,9 @@ impl<D: RowDevice> Player<D> {
     {
         let Player { filter, token } = self;
         let mut filter = filter;
-        match token {
-            Some(token) => match filter.release(token) {
-                Ok(()) => filter.into_device(),
-                Err(_) => unreachable(),
-            },
-            None => filter.into_device(),
+        if let Some(token) = token {
+            filter.release(token).unwrap();
         }
+        filter.into_device()
     }
 }

@@ -1,5 +1,4 @@
 // Lists of calls, played on a filter over any device.
-ghost use Rattle.std.specs.Prelude.{◌≡◌};
 ghost use Rattle.filter.specs.StandsFor.{AtHand, StandsFor};
 ghost use Rattle.filter_calls.specs.Promises.{Promise, last_ledger};
 

@@ -8,7 +8,8 @@ use Rattle.rows.specs.declared.row.Row.{Row}
 use Rattle.rows.specs.declared.refusal.Refusal.{Refusal}
 use Rattle.rows.specs.declared.refusal.Refusal.TheVariants.{NumberOutsideWidth, NoSuchSlot, RowOutsideWidth}
 use Rattle.device.specs.States.{Slot, DeviceState, SlotWithin, row_takes, some_slot_takes, says}
-use Rattle.device.specs.Answers.{with_slot, if_granted, after_put, after_empty, ask_answer}
+use Rattle.rows.specs.Refusals.{if_granted}
+use Rattle.device.specs.Answers.{with_slot, after_put, after_empty, ask_answer}
 use Rattle.device.specs.Levels.{Carrying, Carries, carried_slot, carried_slots}
 use Rattle.layers.specs.Layers.{layer_state, number_below, row_below}
 

@@ -10,7 +10,8 @@ use Rattle.covers.proofs.RowWords.{care_word_fits, clean_word, symbols_back}
 use Rattle.rows.specs.declared.row.Row.{Row}
 use Rattle.device.specs.States.{Slot, DeviceState, SlotWithin, Lawful, row_takes, some_slot_takes}
 use Rattle.device.specs.MadeRows.{row_made}
-use Rattle.device.specs.SymbolLaws.{row_symbols, rows_in}
+use Rattle.device.specs.SymbolLaws.{rows_in}
+use Rattle.rows.specs.Memory.{symbols_of}
 use Rattle.device.specs.Levels.{Level, Beneath, carried_slots}
 use Rattle.device.proofs.SymbolTakes.{row_by_symbols, slots_by_symbols}
 use Rattle.layers.specs.LayerLaws.{carried_within}
@@ -25,7 +26,7 @@ made_fits : (n : ℕ) (q : Symbols) → length q ≡ n → (row_made (value_word
 unfolding row_made
 made_fits n q e = let f = care_word_fits q in let p = ap (λ k. 2 ^ k) e in let h : care_word q < 2 ^ n = omega arith in h
 
-made_symbols : (n : ℕ) (q : Symbols) → length q ≡ n → row_symbols n (row_made (value_word q) (care_word q)) ≡ q
+made_symbols : (n : ℕ) (q : Symbols) → length q ≡ n → symbols_of n (row_made (value_word q) (care_word q)) ≡ q
 unfolding row_made
 made_symbols n q e = ap₂ (λ (j v : ℕ). symbols j v (care_word q)) (sym e) (clean_word q) ∙ symbols_back q
 
@@ -53,7 +54,7 @@ module _ (s : DeviceState) (l : Level) (w : Lawful s) (b : Beneath s l) where
 
   -- a row carried back takes a number exactly when the row takes the carried number
   row_back_takes : (q : Symbols) → length q ≡ s.width → (x : ℕ) → x < 2 ^ s.width →
-      takes (row_symbols s.width (l.carrying.row_back (row_made (value_word q) (care_word q)))) (digits s.width x) ≡ takes q (digits s.width (l.carrying.number_there x))
+      takes (symbols_of s.width (l.carrying.row_back (row_made (value_word q) (care_word q)))) (digits s.width x) ≡ takes q (digits s.width (l.carrying.number_there x))
   row_back_takes q e x h =
       let r = row_made (value_word q) (care_word q) in
       let fits = made_fits s.width q e in
@@ -91,5 +92,5 @@ module _ (s : DeviceState) (l : Level) (w : Lawful s) (b : Beneath s l) where
         taken = taken_beneath;
         as_many = rows_as_many;
         rival_back = rival_back;
-        rival_as_many = λ other. length-map other (λ q. row_symbols s.width (l.carrying.row_back (row_made (value_word q) (care_word q))));
+        rival_as_many = λ other. length-map other (λ q. symbols_of s.width (l.carrying.row_back (row_made (value_word q) (care_word q))));
       }

@@ -6,12 +6,13 @@ use Rattle.covers.specs.Rivals.{Rival}
 use Rattle.rows.specs.declared.row.Row.{Row}
 use Rattle.device.specs.States.{DeviceState, some_slot_takes}
 use Rattle.device.specs.MadeRows.{row_made}
-use Rattle.device.specs.SymbolLaws.{row_symbols, rows_in}
+use Rattle.device.specs.SymbolLaws.{rows_in}
+use Rattle.rows.specs.Memory.{symbols_of}
 use Rattle.device.specs.Levels.{Level}
 
 -- rows of the width by their symbols, each carried
 abbrev pub carried_rows : ℕ → (Row → Row) → List Symbols → List Symbols
-carried_rows n carry rows = map (λ r. row_symbols n (carry (row_made (value_word r) (care_word r)))) rows
+carried_rows n carry rows = map (λ r. symbols_of n (carry (row_made (value_word r) (care_word r)))) rows
 
 -- the rows at the level take a carried number exactly when the rows on top take the number; they are as many; and a
 -- rival of them, carried back, is a rival of the rows on top, with as many rows

@@ -4,6 +4,7 @@ ghost use Rattle.layers.specs.Layers.{layer_state, layer_levels, number_below, r
 ghost use Rattle.layers.specs.LayerLaws.{layer_lawful, layer_beneath};
 
 use super::line_map::LineMap;
+use device::checks::{check_number, check_row};
 use device::device::RowDevice;
 use rows::refusal::Refusal;
 use rows::row::Row;
@@ -38,7 +39,7 @@ impl<M: LineMap, D: RowDevice> Layer<M, D> {
         ensures value { result ≡ number_below (M.LineMap.carrying self.now.map) (D.RowDevice.state self.now.below) number }
     {
         let width = self.below.width();
-        if number < width.limit() {
+        if check_number(number, width).is_ok() {
             self.map.number_there(width, number)
         } else {
             number
@@ -50,7 +51,7 @@ impl<M: LineMap, D: RowDevice> Layer<M, D> {
         ensures value { result ≡ row_below (M.LineMap.carrying self.now.map) (D.RowDevice.state self.now.below) row }
     {
         let width = self.below.width();
-        if u64::from(row.care()) < width.limit() {
+        if check_row(row, width).is_ok() {
             self.map.row_there(width, row)
         } else {
             row

@@ -1,7 +1,8 @@
 // What a line asks of the console.
 use rows::range::Range;
 
-// A line after the first. Its edits are no `Edit` of the run table: the lines know no filter.
+// A line after the first. Its edits are no `Edit` of the run table: the lines would then depend on the table, and the console
+// would match as many cases.
 #[derive(Clone, Copy, PartialEq, Eq, Debug)]
 pub enum Command {
     Add(Range),

@@ -2,7 +2,7 @@
 ghost use Rattle.std.specs.Prelude.{◌≡◌, ℕ, ◌≤◌, List, [], ◌∷◌, ◌++◌, length, ◌==◌, Some};
 ghost use Rattle.std.specs.Option.{ForSome, option_map};
 
-// No line of the console has more bytes.
+// A line of more bytes is refused.
 pub const MOST_LINE_BYTES: usize = 64;
 
 // The bytes since the last newline, or, once they are over 64, that they are too many: it never grows.

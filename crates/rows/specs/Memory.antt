@@ -2,7 +2,12 @@
 use Rattle.std.specs.Prelude.{ℕ, ◌+◌, List, ◌++◌, map, length, take, drop, bit_and}
 use Rattle.covers.specs.Symbols.{Symbols}
 use Rattle.covers.specs.Words.{value_word, care_word, symbols}
+use Rattle.rows.specs.declared.row.Row.{Row}
 use Rattle.rows.specs.declared.row_words.RowWords.{RowWords}
+
+-- the symbols of a row at width n
+abbrev pub symbols_of : ℕ → Row → Symbols
+symbols_of n row = symbols n row.value row.care
 
 -- the row that two words stand for, as a row is made: the value counts only where the row cares
 abbrev pub as_made : RowWords → RowWords

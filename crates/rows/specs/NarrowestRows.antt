@@ -2,15 +2,10 @@
 use Rattle.std.specs.Prelude.{◌≡◌, ℕ, true, false, Ok, Err, Result}
 use Rattle.covers.specs.Digits.{digits}
 use Rattle.covers.specs.Symbols.{Symbols, takes}
-use Rattle.covers.specs.Words.{symbols}
 use Rattle.rows.specs.declared.refusal.Refusal.{Refusal}
 use Rattle.rows.specs.declared.refusal.Refusal.TheVariants.{NumberOutsideWidth}
 use Rattle.rows.specs.declared.row.Row.{Row}
 use Rattle.rows.specs.Widths.{in_width}
-
--- the symbols of a row at width n
-abbrev pub symbols_of : ℕ → Row → Symbols
-symbols_of n row = symbols n row.value row.care
 
 -- a row is answered where both are numbers of the width, and else the refusal
 abbrev pub RowForBoth : ℕ → ℕ → ℕ → Result Row Refusal → Type 0

@@ -1,5 +1,5 @@
 -- The numbers of the refusals.
-use Rattle.std.specs.Prelude.{ℕ, List, ◌++◌, codes, decimal}
+use Rattle.std.specs.Prelude.{ℕ, List, ◌++◌, Ok, Err, Result, codes, decimal}
 use Rattle.rows.specs.declared.refusal.Refusal.{Refusal}
 use Rattle.rows.specs.declared.refusal.Refusal.TheVariants.{WidthOutOfRange, NumberOutsideWidth, MemoryTooShort, NoSuchSlot, RowOutsideWidth, TooManyRuns, TooManyRows, FilterHeld, NotHeld, SheetTooShort, UnknownSymbol, SheetNotClean, MalformedLine}
 
@@ -21,3 +21,8 @@ number_of MalformedLine = 13
 -- a refusal as it is printed, as "refused 4"
 abbrev pub refusal_text : Refusal → List ℕ
 refusal_text refusal = codes "refused " ++ decimal (number_of refusal)
+
+-- what is after a call that may be refused: a granted one changes it, a refused one leaves it the same
+abbrev pub if_granted : {X S : Type 0} → Result X Refusal → S → S → S
+if_granted (Ok x) changed same = changed
+if_granted (Err e) changed same = same

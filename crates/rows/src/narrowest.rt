@@ -2,7 +2,8 @@
 ghost use Rattle.std.specs.Prelude.{◌≡◌, ◌^◌, ◌<◌, IfOk};
 ghost use Rattle.covers.specs.Digits.{digits};
 ghost use Rattle.covers.specs.Rivals.{narrowest};
-ghost use Rattle.rows.specs.NarrowestRows.{RowForBoth, symbols_of, TakesBoth, TakesLeast};
+ghost use Rattle.rows.specs.NarrowestRows.{RowForBoth, TakesBoth, TakesLeast};
+ghost use Rattle.rows.specs.Memory.{symbols_of};
 ghost use Rattle.rows.specs.Widths.{places_of};
 
 use super::refusal::Refusal;

@@ -13,6 +13,13 @@ pub struct Range {
 }
 
 impl Range {
+    pub fn new(first: u64, last: u64) -> Range
+        ensures first { result.first ≡ first }
+        ensures last { result.last ≡ last }
+    {
+        Range { first, last }
+    }
+
     // Whether both ends are numbers of the width.
     pub fn is_within(self, width: Width) -> bool
         ensures value { result ≡ in_width (places_of width) self.first self.last }

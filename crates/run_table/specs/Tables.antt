@@ -1,5 +1,5 @@
 -- What a table of runs means.
-use Rattle.std.specs.Prelude.{◌≡◌, ℕ, min, cond, List, map, length, take, Some, None, Option, nat_lt, slice_index_or}
+use Rattle.std.specs.Prelude.{◌≡◌, ℕ, min, List, map, take}
 use Rattle.covers.specs.Rivals.{NumberSet}
 use Rattle.circle.specs.Runs.{runs}
 use Rattle.rows.specs.declared.range.Range.{Range}
@@ -20,7 +20,3 @@ table_runs t = ranges_of (standing t)
 -- the table holds the runs of the set, at a width
 abbrev pub TableOf : ℕ → NumberSet → RunTable → Type 0
 TableOf n S t = table_runs t ≡ runs n S
-
--- both ends of the run at an index, or nothing beyond the last
-abbrev pub run_at : List (ℕ × ℕ) → ℕ → Option (ℕ × ℕ)
-run_at runs i = cond (nat_lt i (length runs)) (Some (slice_index_or runs i (0, 0))) None

@@ -11,9 +11,10 @@ pub(super) const MOST_RUNS: usize = 16;
 // What stands where no run does.
 const NO_RUN: Range = Range { first: 0, last: 0 };
 
-// At most 16 runs, of which the first `count` stand. Every value is a table: a higher count is read as 16.
+// At most 16 runs, of which the first `count` stand; what counts or lists them promises as much, and a list that becomes a
+// table is asked for no more. Every value is a table: a higher count is read as 16.
 // An array and a count, since the table is a plain value that is copied: the kit's `ArrayVec` is not `Copy`. No ghost
-// field, since a filter over lent memory that has such a field could not be a type argument.
+// field, since a filter over lent memory could then not stand in an `Option`.
 #[derive(Clone, Copy)]
 pub struct RunTable {
     runs: [Range; MOST_RUNS],
@@ -23,7 +24,8 @@ pub struct RunTable {
 impl RunTable {
     ghost use Rattle.covers.specs.Rivals.{NumberSet, in_ranges};
     ghost use Rattle.rows.specs.Widths.{places_of};
-    ghost use Rattle.run_table.specs.Tables.{TableOf, ranges_of, run_at, table_runs};
+    ghost use Rattle.circle.specs.Runs.{run_at};
+    ghost use Rattle.run_table.specs.Tables.{TableOf, ranges_of, table_runs};
 
     // No runs: the table of the empty set.
     pub fn empty() -> RunTable
@@ -63,7 +65,7 @@ impl RunTable {
     pub fn get(&self, i: usize) -> Option<(u64, u64)>
         ensures value { result ≡ run_at (table_runs self.now) i }
     {
-        // a pair of numbers, as the subject has it
+        // a pair: what a report of a run tells
         self.runs().get(i).map(|run| (run.first, run.last))
     }
 

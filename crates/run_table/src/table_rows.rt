@@ -23,6 +23,7 @@ impl RunTable {
     {
         let mut scratch = [RowWords::default(); MOST_ROWS];
         let mut count = 0;
+        // a `sum` was tried: what it asks of its closure, room and a sum in bounds, did not prove
         for run in self.runs() {
             count += write_rows_of_run(width, *run, &mut scratch);
         }

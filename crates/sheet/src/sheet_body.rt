@@ -42,7 +42,7 @@ impl SheetBody<'_> {
         ensures words { result ≡ words_of (take places (drop first (symbols_of (bits_of self.now.bytes.now)))) }
     {
         let mut row = RowWords::default();
-        // a `fold` does not know that there is room for one more symbol
+        // a `fold` was tried: it does not know that there is room for one more symbol
         for index in first..first + places {
             // every code is a symbol's when a row is read
             row = extended(row, self.symbol_at(index).unwrap_or(Symbol::Dash));

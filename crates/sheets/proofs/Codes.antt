@@ -67,12 +67,6 @@ drop_codes (suc j) (s ∷ r) = ap (λ k. drop k (code s ++ flat_map code r)) (tw
     past One = refl
     past Dash = refl
 
-pub drop_symbols_of : (j : ℕ) (u : Digits) → symbols_of (drop (2 * j) u) ≡ drop j (symbols_of u)
-drop_symbols_of zero u = refl
-drop_symbols_of (suc j) [] = ap (λ k. symbols_of (drop k [])) (twice_suc j)
-drop_symbols_of (suc j) (x ∷ []) = ap (λ k. symbols_of (drop k (x ∷ []))) (twice_suc j)
-drop_symbols_of (suc j) (x ∷ (y ∷ u)) = ap (λ k. symbols_of (drop k (x ∷ (y ∷ u)))) (twice_suc j) ∙ drop_symbols_of j u
-
 pub take_symbols_of : (j : ℕ) (u : Digits) → symbols_of (take (2 * j) u) ≡ take j (symbols_of u)
 take_symbols_of zero u = refl
 take_symbols_of (suc j) [] = ap (λ k. symbols_of (take k [])) (twice_suc j)
@@ -126,11 +120,3 @@ byte_of_codes r = ap value (four r) ∙ four_values (code (get_or r 0 Zero)) (co
         let p2 : value b * 2 ^ length (c ++ d) ≡ value b * 16 = ap (λ k. value b * 2 ^ k) l3 in
         let p3 : value c * 2 ^ length d ≡ value c * 4 = ap (λ k. value c * 2 ^ k) hd in
         omega arith
-
--- a code of two bits, as a number
-pub code_cases : (x y : Bool) → value (x ∷ (y ∷ [])) < 4
-unfolding value
-code_cases false false = omega arith
-code_cases false true = omega arith
-code_cases true false = omega arith
-code_cases true true = omega arith

@@ -35,7 +35,3 @@ unfolding value
 zeros_value [] = refl
 zeros_value (false ∷ u) = zeros_value u
 zeros_value (true ∷ u) = let p = pow_pos (length u) in sym (ne_eqb (2 ^ length u + value u) 0 (λ e. omega arith))
-
-pub joined_append : {X A : Type 0} (f : X → List A) (xs ys : List X) → flat_map f (xs ++ ys) ≡ flat_map f xs ++ flat_map f ys
-joined_append f [] ys = refl
-joined_append f (x ∷ xs) ys = ap (λ r. f x ++ r) (joined_append f xs ys) ∙ sym (append_assoc (f x) (flat_map f xs) (flat_map f ys))

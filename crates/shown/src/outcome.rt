@@ -1,5 +1,4 @@
 // Answers that may be refused, as they are printed.
-ghost use Rattle.std.specs.Prelude.{Some};
 ghost use Rattle.shown.specs.Outcomes.{outcome_text};
 
 use rows::refusal::Refusal;

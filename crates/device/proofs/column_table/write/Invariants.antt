@@ -6,5 +6,5 @@ use Rattle.device.proofs.column_table.write.Given as goal
 abbrev pub invariant-loop-place : goal.invariant-loop-place
 invariant-loop-place l =
     (length l.columns ≡ 32)
-    × Writes l.initial.columns l.columns l.slot l.row l.place-counter
+    × Writes l.initial.columns l.columns l.slot.index l.row l.place-counter
     × ((place : ℕ) → l.place-counter ≤ place → get_or l.columns place blank_column ≡ get_or l.initial.columns place blank_column)

@@ -15,14 +15,14 @@ returns-in_err-symbol c =
     let place = c.loop-place.place in
     let n = c.places-places.result in
     let short : place < n = search rules in
-    let none : column_symbol (get_or columns place blank_column) c.args.slot ≡ None =
-    ap (λ (k : Column). column_symbol k c.args.slot) (sym (get_or-take n columns place blank_column short)) ∙ sym c.symbol.ensures.value ∙ c.in_err-symbol.was in
-    record { value = c.from_residual.ensures ∙ read_none columns c.args.slot place (places_of c.args.self.now.width) none (search rules) }
+    let none : column_symbol (get_or columns place blank_column) c.args.slot.index ≡ None =
+    ap (λ (k : Column). column_symbol k c.args.slot.index) (sym (get_or-take n columns place blank_column short)) ∙ sym c.symbol.ensures.value ∙ c.in_err-symbol.was in
+    record { value = c.from_residual.ensures ∙ read_none columns c.args.slot.index place (places_of c.args.self.now.width) none (search rules) }
 
 pub loop-place-preserved : goal.loop-place-preserved
 loop-place-preserved c =
     let columns = c.args.self.now.columns in
-    let slot = c.args.slot in
+    let slot = c.args.slot.index in
     let place = c.loop-place.place in
     let words = c.loop-place.words in
     let read = c.loop-place.invariant in
@@ -43,7 +43,7 @@ returns c =
     let n = places_of c.args.self.now.width in
     let words = c.loop-place.words in
     let last : c.loop-place.place ≡ n = search rules in
-    let read : Read columns c.args.slot n words = rw last at c.loop-place.invariant in
+    let read : Read columns c.args.slot.index n words = rw last at c.loop-place.invariant in
     record {
-      value = ap {B = Option Row} Some (is_made c.from.result words.value words.care c.from.ensures.0 c.from.ensures.1) ∙ read_slot columns c.args.slot n words read;
+      value = ap {B = Option Row} Some (is_made c.from.result words.value words.care c.from.ensures.0 c.from.ensures.1) ∙ read_slot columns c.args.slot.index n words read;
     }

@@ -1,7 +1,6 @@
 use Rattle.std.proofs.Common.{◌≡◌, ℕ, ◌-◌, ◌<◌, Bool, true, false, ◌&&◌, ltb, sym, refl, ap, ◌∙◌, arith, rules, get_or-take}
 use Rattle.std.proofs.lemmas.Nat.{one_shl}
 use Rattle.covers.specs.Digits.{digit}
-use Rattle.covers.proofs.RowWords.{digit_and}
 use Rattle.rows.specs.Widths.{places_of}
 use Rattle.device.specs.Columns.{blank_column}
 use Rattle.device.proofs.BitSets.{digit_ones}
@@ -24,9 +23,9 @@ loop-place-preserved c i =
     let p = c.loop-place.place in
     let x = c.args.number in
     let short : p < c.places-places.result = search rules in
-    digit_and i c.loop-place.slots c.admitting-slots.result ∙
-    column_more i p x c.loop-place.slots c.admitting-slots.result t.count t.columns _ (c.loop-place.invariant i)
-    c.has_one.ensures.value (rw (get_or-take c.places-places.result t.columns p blank_column short) at c.admitting-slots.ensures.value)
+    c.intersect.ensures.value i ∙
+    column_more i p x c.loop-place.slots.bits t.count c.admitting.result t.columns _ (c.loop-place.invariant i)
+    c.has_one.ensures.value (rw (get_or-take c.places-places.result t.columns p blank_column short) at c.admitting.ensures.value)
 
 pub returns : goal.returns
 returns c =

@@ -5,4 +5,4 @@ use Rattle.device.proofs.column_table.ColumnTable.taking.Given as goal
 
 abbrev pub invariant-loop-place : goal.invariant-loop-place
 invariant-loop-place l =
-    (i : ℕ) → digit i l.slots ≡ (ltb i l.self.count && admitted l.place l.self.columns i l.number)
+    (i : ℕ) → digit i l.slots.bits ≡ (ltb i l.self.count && admitted l.place l.self.columns i l.number)

@@ -1,4 +1,4 @@
-use Rattle.std.proofs.Common.{◌^◌, ◌<◌, ◌∙◌, rules}
+use Rattle.std.proofs.Common.{◌^◌, ◌<◌, not, ap, ◌∙◌, rules}
 use Rattle.rows.specs.Widths.{places_of}
 use Rattle.device.specs.ColumnTables.{column_table_state}
 use Rattle.device.proofs.Granted.{ask_is}
@@ -11,5 +11,6 @@ returns-then-not-self c =
     let n = places_of t.width in
     let x = c.args.number in
     let fit : x < 2 ^ n = search rules in
-    let some = some_taking n t.columns t.count x c.taking.result c.taking.type_inv c.taking.ensures.value in
-    record { answer = ask_is (column_table_state t) x _ fit (some ∙ rw c.if-not-self.true) }
+    let few : c.taking.result.bits < 2 ^ 128 = search rules in
+    let some = some_taking n t.columns t.count x c.taking.result.bits few c.taking.ensures.value in
+    record { answer = ask_is (column_table_state t) x _ fit (ap not c.is_empty.ensures.value ∙ some ∙ rw c.if-not-self.true) }

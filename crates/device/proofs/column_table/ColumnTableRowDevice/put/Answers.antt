@@ -1,6 +1,7 @@
-use Rattle.std.proofs.Common.{◌^◌, ◌<◌, length, rules}
+use Rattle.std.proofs.Common.{◌≡◌, ◌^◌, ◌<◌, length, Some, arith, rules}
 use Rattle.rows.specs.Widths.{places_of}
 use Rattle.device.specs.Columns.{column_slots}
+use Rattle.device.proofs.Columns.{Writes, column_length}
 use Rattle.device.proofs.ColumnTables.{table_put}
 use Rattle.device.proofs.column_table.ColumnTableRowDevice.put.Goals as goal
 
@@ -10,6 +11,9 @@ returns-clause-after c =
     let slot = c.args.slot in
     let row = c.args.row in
     let is = c.write.new.columns in
-    let within : slot < length (column_slots (places_of t.width) t.columns t.count) = search rules in
+    let same : c.in_ok-slot.slot.index ≡ slot = search rules in
+    let short : slot < t.count = search rules in
+    let within : slot < length (column_slots (places_of t.width) t.columns t.count) = omega (arith, column_length (places_of t.width) t.columns t.count) in
     let fit : row.care < 2 ^ places_of t.width = search rules in
-    table_put t is slot within row fit c.write.ensures.value
+    let written : Writes t.columns is slot (Some row) 32 = rw same at c.write.ensures.value in
+    table_put t is slot within row fit written
