@@ -1,6 +1,6 @@
 #!/usr/bin/env python3
-"""An independent model of the filter, on Python sets. It prints the account of filters that `trial` prints, and fails
-if crates/trial/stdout has another.
+"""An independent model of the filter, on Python sets. It prints the account of filters that `filter_trial` prints, and fails
+if crates/filter_trial/stdout has another.
 """
 import os
 
@@ -123,13 +123,13 @@ def mixture():
 
 
 def main():
-    stored = os.path.join(os.path.dirname(os.path.abspath(__file__)), "..", "crates", "trial", "stdout")
+    stored = os.path.join(os.path.dirname(os.path.abspath(__file__)), "..", "crates", "filter_trial", "stdout")
     with open(stored, encoding="utf-8") as file:
         text = file.read()
     for account in (two_runs(), mixture()):
         expected = "\n".join(account) + "\n"
         print(expected, end="")
-        assert expected in text, "crates/trial/stdout has another account"
+        assert expected in text, "crates/filter_trial/stdout has another account"
 
 
 if __name__ == "__main__":

@@ -1,11 +1,13 @@
 // Questions to both tables, with 112 filled slots.
 use super::edits::filled;
-use super::stopwatch::timed;
+use super::stopwatch::{CallTime, timed};
 use device::column_table::ColumnTable;
 use device::device::{MOST_SLOTS, RowDevice};
 use device::slot_record::SlotRecord;
 use device::slot_table::SlotTable;
+use rows::refusal::Refusal;
 use rows::width::Width;
+use shown::outcome::Outcome;
 use std::io;
 use std::rt::Clock;
 
@@ -16,18 +18,21 @@ fn number_near(call: u32) -> u64 {
     (u64::from(call % 16) << 28) + u64::from(call / 16 % 256)
 }
 
-// Nanoseconds a question.
+// Asks the device; the answers add up to how many numbers it takes.
 fn time_of<R: Print + Clock, D: RowDevice + Drop>(
     rt: &R,
     name: &str,
     device: D,
-) -> io::Result<u128> {
+) -> io::Result<Result<CallTime, Refusal>> {
     let device = filled(device).into_device();
-    let (time, taken) = timed(rt, CALLS, |call| {
-        usize::from(device.ask(number_near(call)) == Ok(true))
+    let asks = timed(rt, CALLS, |call| {
+        device.ask(number_near(call)).map(usize::from)
     })?;
-    println!(rt; "question, {name}: {time} ns ({taken} taken)")?;
-    Ok(time)
+    println!(rt;
+        "question, {name}:{}",
+        Outcome(asks.map(|time| time.in_unit("taken")))
+    )?;
+    Ok(asks)
 }
 
 pub(super) fn measure<R: Print + Clock>(rt: &R) -> io::Result<()> {
@@ -35,6 +40,9 @@ pub(super) fn measure<R: Print + Clock>(rt: &R) -> io::Result<()> {
     let columns = time_of(rt, "column table", ColumnTable::new(width, MOST_SLOTS))?;
     let mut records = [SlotRecord::EMPTY; MOST_SLOTS];
     let slots = time_of(rt, "slot table", SlotTable::new(width, &mut records))?;
-    let percent = columns.saturating_mul(100) / slots.max(1);
-    println!(rt; "question, column table to slot table: {percent} to 100")
+    if let (Ok(columns), Ok(slots)) = (columns, slots) {
+        let percent = columns.nanoseconds.saturating_mul(100) / slots.nanoseconds.max(1);
+        println!(rt; "question, column table to slot table: {percent} to 100")?;
+    }
+    Ok(())
 }

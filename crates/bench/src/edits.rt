@@ -7,6 +7,7 @@ use device::slot_record::SlotRecord;
 use device::slot_table::SlotTable;
 use lines::reply::Reply;
 use rows::width::Width;
+use shown::outcome::Outcome;
 use std::io;
 use std::rt::Clock;
 
@@ -41,6 +42,14 @@ pub(super) fn filled<D: RowDevice>(device: D) -> Console<D> {
     console
 }
 
+// How many rows a reply tells of; the answer to a question tells of none.
+fn rows_told(reply: Reply) -> usize {
+    match reply {
+        Reply::Rows(count) => count,
+        Reply::Says(_) => 0,
+    }
+}
+
 // Drops the middle run and adds it again, in turn.
 fn measure_on<R: Print + Clock, D: RowDevice + Drop>(
     rt: &R,
@@ -48,18 +57,18 @@ fn measure_on<R: Print + Clock, D: RowDevice + Drop>(
     device: D,
 ) -> io::Result<()> {
     let mut console = filled(device);
-    let (time, rows) = timed(rt, CALLS, |call| {
+    let edits = timed(rt, CALLS, |call| {
         let line: &[u8] = if call % 2 == 0 {
             b"- 1879048193 1879048318"
         } else {
             b"+ 1879048193 1879048318"
         };
-        match console.answer(line) {
-            Ok(Reply::Rows(count)) => count,
-            _ => 0,
-        }
+        console.answer(line).map(rows_told)
     })?;
-    println!(rt; "edit of a full filter, {name}: {time} ns ({rows} rows)")
+    println!(rt;
+        "edit of a full filter, {name}:{}",
+        Outcome(edits.map(|time| time.in_unit("rows")))
+    )
 }
 
 // Each table by name, here and for questions: a closure cannot be generic over the device.

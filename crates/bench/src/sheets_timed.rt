@@ -4,6 +4,7 @@ use rows::row_words::RowWords;
 use rows::width::Width;
 use sheet::pack::{MOST_ROWS, pack};
 use sheet::read::read;
+use shown::outcome::Outcome;
 use std::io;
 use std::rt::Clock;
 
@@ -25,13 +26,11 @@ pub(super) fn measure<R: Print + Clock>(rt: &R) -> io::Result<()> {
     let width = Width::try_from(32).unwrap();
     let mut memory = mixed_rows();
     let mut sheet = [0u8; 962];
-    let (pack_time, bytes) = timed(rt, CALLS, |_| {
-        pack(width, &memory, &mut sheet).unwrap_or(0)
+    let packed = timed(rt, CALLS, |_| pack(width, &memory, &mut sheet))?;
+    let unpacked = timed(rt, CALLS, |_| {
+        read(&sheet, &mut memory).map(|size| size.count)
     })?;
-    let (read_time, rows) = timed(rt, CALLS, |_| {
-        read(&sheet, &mut memory).map_or(0, |size| size.count)
-    })?;
-    println!(rt;
-        "sheet of 120 rows: packed in {pack_time} ns ({bytes} bytes), read in {read_time} ns ({rows} rows)"
-    )
+    let packed = Outcome(packed.map(|time| time.in_unit("bytes")));
+    let unpacked = Outcome(unpacked.map(|time| time.in_unit("rows")));
+    println!(rt; "sheet of 120 rows: packed in{packed}, read in{unpacked}")
 }

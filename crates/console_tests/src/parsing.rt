@@ -11,13 +11,10 @@ use std::test::Fail;
 
 #[test]
 fn lines_are_read(rt: HostRuntime) -> Result<(), Fail> {
-    assert_eq!(rt;
-        parse_command(b"+ 1 4"),
-        Ok(Command::Add(Range { first: 1, last: 4 }))
-    );
+    assert_eq!(rt; parse_command(b"+ 1 4"), Ok(Command::Add(Range::new(1, 4))));
     assert_eq!(rt;
         parse_command(b"- 0000000010 9"),
-        Ok(Command::Drop(Range { first: 10, last: 9 }))
+        Ok(Command::Drop(Range::new(10, 9)))
     );
     assert_eq!(rt;
         parse_command(b"? 9999999999"),

@@ -45,6 +45,20 @@ fn lines_are_answered_as_they_come(rt: HostRuntime) -> Result<(), Fail> {
 }
 
 #[test]
+fn a_line_of_a_megabyte_is_refused_once(rt: HostRuntime) -> Result<(), Fail> {
+    let heap = rt.alloc();
+    let mut session = Session::new();
+    assert_eq!(rt; told(&mut session, heap, b"3 8\n")?, Heard::Nothing);
+    let piece = [b'+'; 4096];
+    for _ in 0..256 {
+        assert_eq!(rt; told(&mut session, heap, &piece)?, Heard::Nothing);
+    }
+    assert_eq!(rt; told(&mut session, heap, b"\n")?, Heard::Malformed);
+    assert_eq!(rt; told(&mut session, heap, b"? 6\n")?, Heard::No);
+    Ok(())
+}
+
+#[test]
 fn the_input_is_answered_alike_in_one_piece_and_in_two(rt: HostRuntime) -> Result<(), Fail> {
     let heap = rt.alloc();
     let whole = console_output(heap, b"3 8\n+ 1 4\n+ 6 6\n- 4 4\n? 6\n? 4\n+ 7 9\n?")?;

@@ -1,38 +1,14 @@
-// Calls that wait for their answers, and answers that are expected.
-use filter_calls::call::{FilterAnswer, FilterCall, FilterExchange, RefusedCall};
-use rows::range::Range;
+// Answers, and those that are expected.
+use filter_calls::call::{FilterAnswer, FilterExchange, RefusedCall};
 use rows::refusal::Refusal;
-use run_table::edit::Edit;
 
 // The tag of the filters that are edited.
 pub(super) const TAG: u64 = 7;
 
 pub(super) type Answer = Result<FilterAnswer, RefusedCall>;
 
-pub(super) fn asked(call: FilterCall) -> FilterExchange {
-    FilterExchange {
-        call,
-        answer: Ok(FilterAnswer::Released),
-    }
-}
-
 pub(super) fn answered(exchange: FilterExchange) -> Answer {
     exchange.answer
-}
-
-pub(super) fn add(first: u64, last: u64) -> FilterCall {
-    add_with(TAG, first, last)
-}
-
-// Adds a range, showing the token of a tag.
-pub(super) fn add_with(tag: u64, first: u64, last: u64) -> FilterCall {
-    let edit = Edit::Add(Range { first, last });
-    FilterCall::Edit { tag, edit }
-}
-
-pub(super) fn drop(first: u64, last: u64) -> FilterCall {
-    let edit = Edit::Drop(Range { first, last });
-    FilterCall::Edit { tag: TAG, edit }
 }
 
 pub(super) fn refused(refusal: Refusal) -> Answer {
@@ -47,6 +23,6 @@ pub(super) fn not_released(refusal: Refusal, tag: u64) -> Answer {
     })
 }
 
-pub(super) fn run(first: u64, last: u64) -> Answer {
-    Ok(FilterAnswer::Run(Some((first, last))))
+pub(super) fn run(ends: (u64, u64)) -> Answer {
+    Ok(FilterAnswer::Run(Some(ends)))
 }

@@ -1,5 +1,5 @@
 // Filters that are closed after their calls: what the device holds then.
-use super::calls::{TAG, add, asked};
+use super::calls::TAG;
 use super::edits::seventeen_runs;
 use device::column_table::ColumnTable;
 use device::device::RowDevice;
@@ -14,7 +14,9 @@ use std::test::Fail;
 #[test]
 fn a_filter_closed_while_held_hears_again(rt: HostRuntime) -> Result<(), Fail> {
     let device = ColumnTable::new(Width::try_from(4)?, 2);
-    let mut exchanges = [FilterCall::Hold, add(8, 11)].map(asked);
+    let mut exchanges = [FilterCall::Hold, FilterCall::add(TAG, Range::new(8, 11))].map(
+        FilterCall::unanswered,
+    );
     let device = replay_and_close(device, TAG, &mut exchanges);
     assert_eq!(rt; device.ask(9), Ok(true));
     Ok(())
@@ -32,17 +34,13 @@ fn sixteen_runs_have_a_row_each(rt: HostRuntime) -> Result<(), Fail> {
 #[test]
 fn a_filter_goes_on_after_its_calls(rt: HostRuntime) -> Result<(), Fail> {
     let device = ColumnTable::new(Width::try_from(4)?, 2);
-    let mut exchanges = [FilterCall::Hold, add(8, 11)].map(asked);
+    let mut exchanges = [FilterCall::Hold, FilterCall::add(TAG, Range::new(8, 11))].map(
+        FilterCall::unanswered,
+    );
     let Replayed { filter, token } = replay(device, TAG, &mut exchanges);
     let mut filter = filter;
     if let Some(token) = token {
-        let rows = filter.drop(
-            &token,
-            Range {
-                first: 10,
-                last: 11,
-            },
-        );
+        let rows = filter.drop(&token, Range::new(10, 11));
         assert_eq!(rt; rows, Ok(1));
         filter.release(token).unwrap();
     }

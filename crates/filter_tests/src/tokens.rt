@@ -1,9 +1,10 @@
 // Holds, tokens, and questions to a filter that is held.
-use super::calls::{add_with, answered, asked, not_released, refused};
+use super::calls::{answered, not_released, refused};
 use device::slot_record::SlotRecord;
 use device::slot_table::SlotTable;
 use filter_calls::call::{FilterAnswer, FilterCall};
 use filter_calls::closing::replay_and_close;
+use rows::range::Range;
 use rows::refusal::Refusal;
 use rows::width::Width;
 use std::test::Fail;
@@ -13,13 +14,13 @@ fn a_filter_that_is_not_held_is_not_edited(rt: HostRuntime) -> Result<(), Fail> 
     let mut records = [SlotRecord::EMPTY; 4];
     let device = SlotTable::new(Width::try_from(4)?, &mut records);
     let mut exchanges = [
-        add_with(5, 0, 3),
+        FilterCall::add(5, Range::new(0, 3)),
         FilterCall::Release { tag: 5 },
         FilterCall::Ask { number: 0 },
         FilterCall::Ask { number: 16 },
         FilterCall::ReportSlot { slot: 4 },
     ]
-    .map(asked);
+    .map(FilterCall::unanswered);
     let _ = replay_and_close(device, 5, &mut exchanges);
     let expected = [
         refused(Refusal::NotHeld),
@@ -40,13 +41,13 @@ fn foreign_tokens_are_refused(rt: HostRuntime) -> Result<(), Fail> {
         FilterCall::Hold,
         FilterCall::Hold,
         FilterCall::Ask { number: 16 },
-        add_with(6, 0, 16),
-        add_with(5, 0, 16),
+        FilterCall::add(6, Range::new(0, 16)),
+        FilterCall::add(5, Range::new(0, 16)),
         FilterCall::Release { tag: 6 },
         FilterCall::Release { tag: 5 },
         FilterCall::Hold,
     ]
-    .map(asked);
+    .map(FilterCall::unanswered);
     let _ = replay_and_close(device, 5, &mut exchanges);
     let expected = [
         Ok(FilterAnswer::Token { tag: 5 }),

@@ -6,35 +6,17 @@ use device::slot_table::SlotTable;
 use filter_calls::alike::answer_alike;
 use filter_calls::call::{FilterAnswer, FilterCall, FilterExchange};
 use filter_calls::closing::replay_and_close;
+use filter_calls::replay::{Replayed, replay};
 use layers::flip::Flip;
 use layers::layer::Layer;
 use layers::turn::Turn;
 use rows::range::Range;
 use rows::width::Width;
-use run_table::edit::Edit;
 use shown::slots::ShownSlots;
 use std::io;
 
 // The tag of every filter here.
 const TAG: u64 = 7;
-
-// A call that waits for its answer.
-fn asked(call: FilterCall) -> FilterExchange {
-    FilterExchange {
-        call,
-        answer: Ok(FilterAnswer::Released),
-    }
-}
-
-fn add(tag: u64, first: u64, last: u64) -> FilterCall {
-    let edit = Edit::Add(Range { first, last });
-    FilterCall::Edit { tag, edit }
-}
-
-fn drop(tag: u64, first: u64, last: u64) -> FilterCall {
-    let edit = Edit::Drop(Range { first, last });
-    FilterCall::Edit { tag, edit }
-}
 
 pub(super) fn two_runs(rt: &impl Print) -> io::Result<()> {
     println!(rt;
@@ -43,18 +25,26 @@ pub(super) fn two_runs(rt: &impl Print) -> io::Result<()> {
     let width = Width::try_from(4).unwrap();
     let mut exchanges = [
         FilterCall::Hold,
-        add(TAG, 8, 11),
-        add(TAG, 0, 3),
-        FilterCall::ReportRun { index: 0 },
-        FilterCall::ReportRun { index: 1 },
-        FilterCall::ReportRun { index: 2 },
+        FilterCall::add(TAG, Range::new(8, 11)),
+        FilterCall::add(TAG, Range::new(0, 3)),
     ]
-    .map(asked);
-    let device = replay_and_close(ColumnTable::new(width, 4), TAG, &mut exchanges);
+    .map(FilterCall::unanswered);
+    let Replayed { filter, token } = replay(ColumnTable::new(width, 4), TAG, &mut exchanges);
+    let mut filter = filter;
+    // the calls left the filter held, and it goes on by hand
+    if let Some(token) = token {
+        filter.release(token).unwrap();
+    }
     for FilterExchange { call, answer } in exchanges {
         let answers = &[answer];
         println!(rt; "{}:{}", ShownCall(call), ShownAnswers { width, answers })?;
     }
+    for index in 0..3 {
+        let call = FilterCall::ReportRun { index };
+        let answers = &[Ok(FilterAnswer::Run(filter.report_run(index)))];
+        println!(rt; "{}:{}", ShownCall(call), ShownAnswers { width, answers })?;
+    }
+    let device = filter.into_device();
     println!(rt; "slots:{}", ShownSlots { device: &device })
 }
 
@@ -62,26 +52,26 @@ pub(super) fn two_runs(rt: &impl Print) -> io::Result<()> {
 fn calls() -> [FilterExchange; 19] {
     [
         FilterCall::Ask { number: 3 },
-        add(TAG, 0, 3),
+        FilterCall::add(TAG, Range::new(0, 3)),
         FilterCall::Hold,
         FilterCall::Ask { number: 3 },
-        add(8, 0, 3),
-        add(TAG, 0, 16),
-        add(TAG, 8, 11),
-        add(TAG, 0, 3),
+        FilterCall::add(8, Range::new(0, 3)),
+        FilterCall::add(TAG, Range::new(0, 16)),
+        FilterCall::add(TAG, Range::new(8, 11)),
+        FilterCall::add(TAG, Range::new(0, 3)),
         FilterCall::ReportSlot { slot: 0 },
         FilterCall::ReportSlot { slot: 4 },
         FilterCall::Release { tag: 8 },
         FilterCall::Release { tag: TAG },
         FilterCall::Ask { number: 9 },
         FilterCall::Hold,
-        add(TAG, 13, 15),
-        add(TAG, 5, 5),
-        drop(TAG, 8, 14),
+        FilterCall::add(TAG, Range::new(13, 15)),
+        FilterCall::add(TAG, Range::new(5, 5)),
+        FilterCall::drop(TAG, Range::new(8, 14)),
         FilterCall::ReportRun { index: 0 },
         FilterCall::ReportRun { index: 1 },
     ]
-    .map(asked)
+    .map(FilterCall::unanswered)
 }
 
 pub(super) fn mixture(rt: &impl Print) -> io::Result<()> {
@@ -89,6 +79,7 @@ pub(super) fn mixture(rt: &impl Print) -> io::Result<()> {
         "A mixture of calls at width 4 with 4 slots, over a slot table | a column table | a flip of 0001 over a turn over a column table"
     )?;
     let width = Width::try_from(4).unwrap();
+    // each filter answers a list of its own; an array pattern cannot take the three from a `map`
     let mut over_slots = calls();
     let mut over_columns = calls();
     let mut over_pile = calls();
@@ -108,7 +99,7 @@ pub(super) fn mixture(rt: &impl Print) -> io::Result<()> {
     print_levels(rt, pile)
 }
 
-// What the slots hold on top of the pile, below the flip and at the bottom.
+// What the slots hold on top of the pile, below the flip and at the bottom: the pile is taken apart, so no `Display` can.
 fn print_levels(rt: &impl Print, pile: Layer<Flip, Layer<Turn, ColumnTable>>) -> io::Result<()> {
     println!(rt; "pile, on top:{}", ShownSlots { device: &pile })?;
     let (_, turn) = pile.into_parts();

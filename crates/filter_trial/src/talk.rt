@@ -55,22 +55,25 @@ impl fmt::Display for ShownAnswer {
             Ok(FilterAnswer::Says(false)) => write!(f, " no"),
             Ok(FilterAnswer::Slot(held)) => write!(f, "{}", ShownSlot { width, held }),
             Ok(FilterAnswer::Run(Some((first, last)))) => {
-                write!(f, " {}", ShownRange(Range { first, last }))
+                write!(f, " {}", ShownRange(Range::new(first, last)))
             }
             Ok(FilterAnswer::Run(None)) => write!(f, " none"),
-            Err(refused) => write_refused(f, refused),
+            Err(refused) => write!(f, "{}", ShownRefused(refused)),
         }
     }
 }
 
-fn write_refused<W: fmt::Write>(f: &mut fmt::Formatter<W>, refused: RefusedCall) -> fmt::Result {
-    let RefusedCall {
-        refusal,
-        handed_back,
-    } = refused;
-    match handed_back {
-        Some(tag) => write!(f, " {refusal}, token {tag} back"),
-        None => write!(f, " {refusal}"),
+// Why a call was refused, and the token that it hands back.
+#[derive(Clone, Copy)]
+struct ShownRefused(RefusedCall);
+
+impl fmt::Display for ShownRefused {
+    fn fmt<W: fmt::Write>(&self, f: &mut fmt::Formatter<W>) -> fmt::Result {
+        let refusal = self.0.refusal;
+        match self.0.handed_back {
+            Some(tag) => write!(f, " {refusal}, token {tag} back"),
+            None => write!(f, " {refusal}"),
+        }
     }
 }
 

@@ -13,7 +13,7 @@ use rows::width::Width;
 use std::process::Abort;
 use std::test::Fail;
 
-// As in `device_tests`: only a test may take `Abort`, so no library can lend this.
+// As in `device_tests`, but for the last questions; a `bool` from a library would not tell which line failed.
 // Four places; nothing can be put, emptied or read at the slot of this number and at slot 120, and no wide row put.
 fn refuses<D: RowDevice>(rt: &impl Abort, pile: &mut D, count: usize) {
     assert_eq!(rt; pile.slot_count(), count);

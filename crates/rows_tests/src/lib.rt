@@ -46,10 +46,7 @@ mod tests {
     fn memory_of_the_right_length(rt: HostRuntime) -> Result<(), Fail> {
         let width = Width::try_from(3)?;
         let mut memory = [OLD; 4];
-        assert_eq!(rt;
-            rows_of_range(width, Range { first: 1, last: 6 }, &mut memory),
-            Ok(3)
-        );
+        assert_eq!(rt; rows_of_range(width, Range::new(1, 6), &mut memory), Ok(3));
         assert_eq!(rt;
             memory[0],
             RowWords {
@@ -73,7 +70,7 @@ mod tests {
         );
         assert_eq!(rt; memory[3], OLD);
         assert_eq!(rt;
-            rows_of_range(width, Range { first: 1, last: 6 }, &mut memory[0..3]),
+            rows_of_range(width, Range::new(1, 6), &mut memory[0..3]),
             Ok(3)
         );
         Ok(())
@@ -84,23 +81,23 @@ mod tests {
         let width = Width::try_from(3)?;
         let mut memory = [OLD; 2];
         assert_eq!(rt;
-            rows_of_range(width, Range { first: 1, last: 6 }, &mut memory),
+            rows_of_range(width, Range::new(1, 6), &mut memory),
             Err(Refusal::MemoryTooShort)
         );
         assert_eq!(rt;
-            rows_of_range(width, Range { first: 1, last: 8 }, &mut memory),
+            rows_of_range(width, Range::new(1, 8), &mut memory),
             Err(Refusal::NumberOutsideWidth)
         );
         assert_eq!(rt;
-            rows_of_range(width, Range { first: 8, last: 1 }, &mut memory),
+            rows_of_range(width, Range::new(8, 1), &mut memory),
             Err(Refusal::NumberOutsideWidth)
         );
         assert_eq!(rt;
-            rows_of_range(width, Range { first: 8, last: 1 }, &mut memory[0..0]),
+            rows_of_range(width, Range::new(8, 1), &mut memory[0..0]),
             Err(Refusal::NumberOutsideWidth)
         );
         assert_eq!(rt;
-            rows_of_range(width, Range { first: 0, last: 7 }, &mut memory[0..0]),
+            rows_of_range(width, Range::new(0, 7), &mut memory[0..0]),
             Err(Refusal::MemoryTooShort)
         );
         assert_eq!(rt; memory[0], OLD);

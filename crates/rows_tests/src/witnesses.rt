@@ -37,7 +37,7 @@ fn witnesses_at_small_widths(rt: HostRuntime) -> Result<(), Fail> {
         let width = Width::try_from(places)?;
         for first in 0..width.limit() {
             for last in 0..width.limit() {
-                check_range(&rt, width, Range { first, last })?;
+                check_range(&rt, width, Range::new(first, last))?;
             }
         }
     }
@@ -48,7 +48,7 @@ fn witnesses_at_small_widths(rt: HostRuntime) -> Result<(), Fail> {
 #[test]
 fn witness_of_one_to_six(rt: HostRuntime) -> Result<(), Fail> {
     let mut numbers = [0u64; MOST_ROWS];
-    let range = Range { first: 1, last: 6 };
+    let range = Range::new(1, 6);
     let count = witness_of_range(Width::try_from(3)?, range, &mut numbers)?;
     assert!(rt; count == 3);
     println!(rt;

@@ -11,20 +11,12 @@ mod tests {
     use run_table::table::RunTable;
     use std::test::Fail;
 
-    fn add(table: RunTable, width: Width, first: u64, last: u64) -> Result<RunTable, Refusal> {
-        table.after_edit(width, Edit::Add(Range { first, last }))
-    }
-
-    fn take(table: RunTable, width: Width, first: u64, last: u64) -> Result<RunTable, Refusal> {
-        table.after_edit(width, Edit::Drop(Range { first, last }))
-    }
-
     #[test]
     fn joined_across_the_highest_number(rt: HostRuntime) -> Result<(), Fail> {
         let width = Width::try_from(3)?;
-        let table = add(RunTable::empty(), width, 6, 7)?;
+        let table = RunTable::empty().after_edit(width, Edit::Add(Range::new(6, 7)))?;
         assert_eq!(rt; table.get(0), Some((6, 7)));
-        let table = add(table, width, 0, 1)?;
+        let table = table.after_edit(width, Edit::Add(Range::new(0, 1)))?;
         assert_eq!(rt; table.len(), 1);
         assert_eq!(rt; table.get(0), Some((6, 1)));
         assert_eq!(rt; table.get(1), None);
@@ -35,11 +27,12 @@ mod tests {
     #[test]
     fn the_circle_by_pieces(rt: HostRuntime) -> Result<(), Fail> {
         let width = Width::try_from(3)?;
-        let table = add(RunTable::empty(), width, 5, 1)?;
-        let table = add(table, width, 3, 3)?;
+        let table = RunTable::empty().after_edit(width, Edit::Add(Range::new(5, 1)))?;
+        let table = table.after_edit(width, Edit::Add(Range::new(3, 3)))?;
         assert_eq!(rt; table.get(0), Some((3, 3)));
         assert_eq!(rt; table.get(1), Some((5, 1)));
-        let table = add(add(table, width, 4, 4)?, width, 2, 2)?;
+        let table = table.after_edit(width, Edit::Add(Range::new(4, 4)))?;
+        let table = table.after_edit(width, Edit::Add(Range::new(2, 2)))?;
         assert_eq!(rt; table.len(), 1);
         assert_eq!(rt; table.get(0), Some((0, 7)));
         assert_eq!(rt; table.row_count(width), 1);
@@ -49,20 +42,23 @@ mod tests {
     #[test]
     fn dropped_from_the_circle(rt: HostRuntime) -> Result<(), Fail> {
         let width = Width::try_from(3)?;
-        let table = take(RunTable::whole(width), width, 7, 7)?;
+        let table = RunTable::whole(width).after_edit(width, Edit::Drop(Range::new(7, 7)))?;
         assert_eq!(rt; table.get(0), Some((0, 6)));
-        let table = take(RunTable::whole(width), width, 3, 3)?;
+        let table = RunTable::whole(width).after_edit(width, Edit::Drop(Range::new(3, 3)))?;
         assert_eq!(rt; table.len(), 1);
         assert_eq!(rt; table.get(0), Some((4, 2)));
-        assert_eq!(rt; take(table, width, 4, 2)?.len(), 0);
+        assert_eq!(rt;
+            table.after_edit(width, Edit::Drop(Range::new(4, 2)))?.len(),
+            0
+        );
         Ok(())
     }
 
     #[test]
     fn the_middle_of_a_run(rt: HostRuntime) -> Result<(), Fail> {
         let width = Width::try_from(32)?;
-        let table = add(RunTable::empty(), width, 4_294_967_290, 9)?;
-        let table = take(table, width, 4_294_967_294, 3)?;
+        let table = RunTable::empty().after_edit(width, Edit::Add(Range::new(4_294_967_290, 9)))?;
+        let table = table.after_edit(width, Edit::Drop(Range::new(4_294_967_294, 3)))?;
         assert_eq!(rt; table.len(), 2);
         assert_eq!(rt; table.get(0), Some((4, 9)));
         assert_eq!(rt; table.get(1), Some((4_294_967_290, 4_294_967_293)));
@@ -74,35 +70,41 @@ mod tests {
         let width = Width::try_from(6)?;
         let mut table = RunTable::empty();
         for i in 0..16 {
-            table = add(table, width, 2 * i, 2 * i)?;
+            table = table.after_edit(width, Edit::Add(Range::new(2 * i, 2 * i)))?;
         }
         assert_eq!(rt; table.len(), 16);
-        assert!(rt; add(table, width, 40, 40).is_err());
+        assert!(rt;
+            table
+                .after_edit(width, Edit::Add(Range::new(40, 40)))
+                .is_err()
+        );
         assert_eq!(rt; table.len(), 16);
         assert!(rt; !table.contains(40));
-        let table = add(table, width, 1, 1)?;
+        let table = table.after_edit(width, Edit::Add(Range::new(1, 1)))?;
         assert_eq!(rt; table.len(), 15);
         assert_eq!(rt; table.get(0), Some((0, 2)));
-        assert_eq!(rt; add(table, width, 40, 3)?.len(), 14);
+        assert_eq!(rt;
+            table.after_edit(width, Edit::Add(Range::new(40, 3)))?.len(),
+            14
+        );
         Ok(())
     }
 
     #[test]
     fn ends_outside_the_width(rt: HostRuntime) -> Result<(), Fail> {
         let width = Width::try_from(3)?;
-        match add(RunTable::empty(), width, 0, 8) {
-            Ok(_) => Err(Fail::new("granted")),
-            Err(refusal) => {
-                assert_eq!(rt; refusal, Refusal::NumberOutsideWidth);
-                Ok(())
-            },
-        }
+        let refusal = RunTable::empty()
+            .after_edit(width, Edit::Add(Range::new(0, 8)))
+            .err();
+        assert_eq!(rt; refusal, Some(Refusal::NumberOutsideWidth));
+        Ok(())
     }
 
     #[test]
     fn rows_of_all_runs(rt: HostRuntime) -> Result<(), Fail> {
         let width = Width::try_from(3)?;
-        let table = add(add(RunTable::empty(), width, 1, 2)?, width, 4, 5)?;
+        let table = RunTable::empty().after_edit(width, Edit::Add(Range::new(1, 2)))?;
+        let table = table.after_edit(width, Edit::Add(Range::new(4, 5)))?;
         let old = RowWords { value: 7, care: 7 };
         let mut memory = [old; 4];
         assert_eq!(rt;

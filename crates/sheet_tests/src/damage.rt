@@ -5,13 +5,8 @@ use sheet::read::read;
 // Whether the bytes read to these two rows of width 3.
 fn reads_to(bytes: &[u8], rows: [RowWords; 2]) -> bool {
     let mut memory = [RowWords::default(); 120];
-    match read(bytes, &mut memory) {
-        Ok(size) => size.width.places() == 3
-            && size.count == 2
-            && memory[0] == rows[0]
-            && memory[1] == rows[1],
-        Err(_) => false,
-    }
+    read(bytes, &mut memory).is_ok_and(|size| size.width.places() == 3 && size.count == 2)
+        && memory.starts_with(&rows)
 }
 
 #[test]

@@ -8,7 +8,7 @@ use rows::width::Width;
 use sheet::pack::pack;
 use sheet::read::read;
 use shown::outcome::Outcome;
-use std::io;
+use std::{fmt, io};
 
 // The sheet of a range's rows.
 fn sheet_of_range(range: Range, memory: &mut [u8]) -> Result<&[u8], Refusal> {
@@ -28,23 +28,35 @@ fn rows_on<'a>(sheet: &[u8], memory: &'a mut [RowWords]) -> Result<ShownRows<'a>
     })
 }
 
-// Prints the bytes in hexadecimal, and what they read to.
-fn account(rt: &impl Print, sheet: &[u8]) -> io::Result<()> {
-    for byte in sheet {
-        print!(rt; "{byte:02x} ")?;
+// The bytes of a sheet in hexadecimal, and what they read to.
+#[derive(Clone, Copy)]
+struct ShownSheet<'a>(&'a [u8]);
+
+impl fmt::Display for ShownSheet<'_> {
+    fn fmt<W: fmt::Write>(&self, f: &mut fmt::Formatter<W>) -> fmt::Result {
+        for byte in self.0 {
+            write!(f, "{byte:02x} ")?;
+        }
+        let mut memory = [RowWords::default(); 8];
+        write!(f, "->{}", Outcome(rows_on(self.0, &mut memory)))
     }
-    let mut memory = [RowWords::default(); 8];
-    println!(rt; "->{}", Outcome(rows_on(sheet, &mut memory)))
+}
+
+// How many bytes a sheet has.
+#[derive(Clone, Copy)]
+struct ByteCount(usize);
+
+impl fmt::Display for ByteCount {
+    fn fmt<W: fmt::Write>(&self, f: &mut fmt::Formatter<W>) -> fmt::Result {
+        write!(f, " {} bytes", self.0)
+    }
 }
 
 pub(super) fn packed_ranges(rt: &impl Print) -> io::Result<()> {
     println!(rt; "Sheets: the rows of 3 to 12 at width 4, then damaged ones")?;
     let mut memory = [0u8; 6];
-    let range = Range { first: 3, last: 12 };
-    match sheet_of_range(range, &mut memory) {
-        Ok(sheet) => account(rt, sheet)?,
-        Err(refusal) => println!(rt; " {refusal}")?,
-    }
+    let sheet = sheet_of_range(Range::new(3, 12), &mut memory);
+    println!(rt; "{}", Outcome(sheet.map(ShownSheet)))?;
     let damaged: [&[u8]; 7] = [
         &[0x18],
         &[0x1f, 0xf0],
@@ -55,7 +67,7 @@ pub(super) fn packed_ranges(rt: &impl Print) -> io::Result<()> {
         &[0x18, 0x90, 0, 0, 0, 0, 0, 0, 0, 0, 0],
     ];
     for sheet in damaged {
-        account(rt, sheet)?;
+        println!(rt; "{}", ShownSheet(sheet))?;
     }
     Ok(())
 }
@@ -66,14 +78,13 @@ pub(super) fn unpacked_rows(rt: &impl Print) -> io::Result<()> {
     let wide = [RowWords { value: 0, care: 16 }];
     let many = [RowWords::default(); 121];
     let mut sheet = [0u8; 64];
-    refused(rt, pack(width, &wide, &mut sheet))?;
-    refused(rt, pack(width, &many, &mut sheet))?;
-    refused(rt, pack(width, &many[..1], &mut sheet[..2]))
-}
-
-fn refused(rt: &impl Print, answer: Result<usize, Refusal>) -> io::Result<()> {
-    match answer {
-        Ok(size) => println!(rt; " {size} bytes"),
-        Err(refusal) => println!(rt; " {refusal}"),
+    let packed = [
+        pack(width, &wide, &mut sheet),
+        pack(width, &many, &mut sheet),
+        pack(width, &many[..1], &mut sheet[..2]),
+    ];
+    for size in packed {
+        println!(rt; "{}", Outcome(size.map(ByteCount)))?;
     }
+    Ok(())
 }

@@ -36,10 +36,8 @@ impl<D: RowDevice> fmt::Display for Taken<'_, D> {
         let width = self.device.width();
         let places = width.places() as usize;
         for number in 0..width.limit() {
-            match ask_pile(self.device, number) {
-                Ok(true) => write!(f, " {number:0places$b}")?,
-                Ok(false) => {}
-                Err(refusal) => write!(f, " {refusal}")?,
+            if ask_pile(self.device, number).unwrap() {
+                write!(f, " {number:0places$b}")?;
             }
         }
         Ok(())
@@ -51,7 +49,7 @@ pub(super) fn flip_over_turn(rt: &impl Print) -> io::Result<()> {
     let mut records = [SlotRecord::EMPTY; 5];
     let table = SlotTable::new(Width::try_from(4).unwrap(), &mut records);
     let mut pile = Layer::new(Flip { mask: 0b0001 }, Layer::new(Turn, table));
-    if let Err(refusal) = put_range(&mut pile, Range { first: 3, last: 9 }) {
+    if let Err(refusal) = put_range(&mut pile, Range::new(3, 9)) {
         return println!(rt; " {refusal}");
     }
     println!(rt; "slots on top:{}", ShownSlots { device: &pile })?;

@@ -43,23 +43,19 @@ fn account_all(rt: &impl Print, ranges: &[(u64, Range)]) -> io::Result<()> {
     Ok(())
 }
 
-fn range(first: u64, last: u64) -> Range {
-    Range { first, last }
-}
-
 pub(super) fn worked_ranges(rt: &impl Print) -> io::Result<()> {
     println!(rt; "Worked ranges")?;
     let ranges = [
-        (3, range(1, 6)),
-        (3, range(0, 4)),
-        (3, range(3, 7)),
-        (3, range(2, 5)),
-        (3, range(1, 5)),
-        (3, range(2, 6)),
-        (4, range(3, 12)),
-        (4, range(1, 12)),
-        (3, range(6, 4)),
-        (2, range(3, 0)),
+        (3, Range::new(1, 6)),
+        (3, Range::new(0, 4)),
+        (3, Range::new(3, 7)),
+        (3, Range::new(2, 5)),
+        (3, Range::new(1, 5)),
+        (3, Range::new(2, 6)),
+        (4, Range::new(3, 12)),
+        (4, Range::new(1, 12)),
+        (3, Range::new(6, 4)),
+        (2, Range::new(3, 0)),
     ];
     account_all(rt, &ranges)
 }
@@ -67,17 +63,17 @@ pub(super) fn worked_ranges(rt: &impl Print) -> io::Result<()> {
 pub(super) fn wide_ranges(rt: &impl Print) -> io::Result<()> {
     println!(rt; "Other widths, single numbers and the whole circle")?;
     let ranges = [
-        (32, range(1, 4_294_967_294)),
-        (32, range(0, 4_294_967_295)),
-        (32, range(4_294_967_295, 0)),
-        (32, range(2_147_483_648, 2_147_483_647)),
-        (31, range(1, 2_147_483_646)),
-        (31, range(1_073_741_825, 1_073_741_823)),
-        (2, range(1, 2)),
-        (2, range(2, 2)),
-        (1, range(0, 0)),
-        (1, range(1, 0)),
-        (1, range(0, 1)),
+        (32, Range::new(1, 4_294_967_294)),
+        (32, Range::new(0, 4_294_967_295)),
+        (32, Range::new(4_294_967_295, 0)),
+        (32, Range::new(2_147_483_648, 2_147_483_647)),
+        (31, Range::new(1, 2_147_483_646)),
+        (31, Range::new(1_073_741_825, 1_073_741_823)),
+        (2, Range::new(1, 2)),
+        (2, Range::new(2, 2)),
+        (1, Range::new(0, 0)),
+        (1, Range::new(1, 0)),
+        (1, Range::new(0, 1)),
     ];
     account_all(rt, &ranges)
 }
@@ -85,13 +81,13 @@ pub(super) fn wide_ranges(rt: &impl Print) -> io::Result<()> {
 pub(super) fn refused_ranges(rt: &impl Print) -> io::Result<()> {
     println!(rt; "Refused")?;
     let refused = [
-        (3, range(1, 8), MOST_ROWS),
-        (3, range(8, 1), MOST_ROWS),
-        (3, range(1, 6), 2),
-        (3, range(1, 6), 0),
-        (3, range(8, 8), 0),
-        (0, range(0, 0), MOST_ROWS),
-        (33, range(0, 0), MOST_ROWS),
+        (3, Range::new(1, 8), MOST_ROWS),
+        (3, Range::new(8, 1), MOST_ROWS),
+        (3, Range::new(1, 6), 2),
+        (3, Range::new(1, 6), 0),
+        (3, Range::new(8, 8), 0),
+        (0, Range::new(0, 0), MOST_ROWS),
+        (33, Range::new(0, 0), MOST_ROWS),
     ];
     for (places, range, room) in refused {
         account(rt, places, range, room)?;

@@ -50,18 +50,17 @@ impl fmt::Display for Witnessed {
 pub(super) fn rows_and_witnesses(rt: &impl Print) -> io::Result<()> {
     println!(rt; "Rows, and beside them numbers no two of which one row can take")?;
     let ranges = [
-        (3, 1, 6),
-        (3, 0, 4),
-        (4, 3, 12),
-        (4, 1, 12),
-        (3, 6, 4),
-        (2, 3, 0),
-        (5, 31, 30),
-        (5, 17, 15),
-        (3, 1, 8),
+        (3, Range::new(1, 6)),
+        (3, Range::new(0, 4)),
+        (4, Range::new(3, 12)),
+        (4, Range::new(1, 12)),
+        (3, Range::new(6, 4)),
+        (2, Range::new(3, 0)),
+        (5, Range::new(31, 30)),
+        (5, Range::new(17, 15)),
+        (3, Range::new(1, 8)),
     ];
-    for (places, first, last) in ranges {
-        let range = Range { first, last };
+    for (places, range) in ranges {
         let shown = Outcome(Witnessed::of_range(places, range));
         println!(rt; "width {places}, {}:{shown}", ShownRange(range))?;
     }
