@@ -42,9 +42,12 @@ fn a_filter_goes_on_after_its_calls(rt: HostRuntime) -> Result<(), Fail> {
     if let Some(token) = token {
         let rows = filter.drop(&token, Range::new(10, 11));
         assert_eq!(rt; rows, Ok(1));
+        let rows = filter.add(&token, Range::new(0, 3));
+        assert_eq!(rt; rows, Ok(2));
         filter.release(token).unwrap();
     }
     assert_eq!(rt; filter.ask(9), Ok(true));
     assert_eq!(rt; filter.ask(10), Ok(false));
+    assert_eq!(rt; filter.ask(3), Ok(true));
     Ok(())
 }

@@ -7,6 +7,7 @@ mod witnesses;
 #[cfg(test)]
 mod tests {
     use covers::symbol::Symbol;
+    use covers::theorems::worked_examples;
     use ranges::range::rows_of_range;
     use rows::range::Range;
     use rows::refusal::Refusal;
@@ -25,6 +26,11 @@ mod tests {
         assert_eq!(rt; Width::try_from(1)?.limit(), 2);
         assert_eq!(rt; Width::try_from(32)?.limit(), 4_294_967_296);
         Ok(())
+    }
+
+    #[test]
+    fn the_worked_examples_are_ten(rt: HostRuntime) {
+        assert_eq!(rt; worked_examples(), 10);
     }
 
     #[test]
