@@ -2,6 +2,7 @@ pub mod Rows
 pub mod Slots
 pub mod Granted
 pub mod Tables
+pub mod KeptOn
 pub mod Plays
 pub mod BitSets
 pub mod Columns

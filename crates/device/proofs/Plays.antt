@@ -1,13 +1,46 @@
 -- One step of a list of calls.
-use Rattle.std.proofs.Common.{◌≡◌, ℕ, ◌+◌, ◌<◌, Bool, true, ◌&&◌, List, ◌∷◌, length, get_or, drop, drop-cons, add-one, Decides, sym, ap, ◌∙◌, ap₂}
+use Rattle.std.proofs.Common.{◌≡◌, ℕ, ◌+◌, ◌<◌, Bool, true, ◌&&◌, List, [], ◌∷◌, ◌++◌, length, get_or, take, drop, set, append_assoc, drop-cons, add-one, Decides, sym, ap, ◌∙◌, ap₂}
 use Rattle.std.proofs.lemmas.Bool.{and_from, and_parts}
+use Rattle.std.proofs.lemmas.List.{drop-drop, take_more_set}
 use Rattle.device.specs.declared.call.DeviceCall.{DeviceCall}
+use Rattle.device.specs.declared.exchange.Exchange.{Exchange}
+use Rattle.device.specs.Exchanges.{after_all, answered_all, calls_of}
 use Rattle.device.specs.States.{DeviceState}
 use Rattle.device.specs.Replays.{Answer, answer_to, after_call, answers_to, after_calls}
 
 -- the next element and what is left
-next_left : {X : Type 0} (xs : List X) (i : ℕ) (x : X) → i < length xs → x ≡ get_or xs i x → drop i xs ≡ x ∷ drop (i + 1) xs
+pub next_left : {X : Type 0} (xs : List X) (i : ℕ) (x : X) → i < length xs → x ≡ get_or xs i x → drop i xs ≡ x ∷ drop (i + 1) xs
 next_left xs i x h e = drop-cons xs i x h ∙ ap₂ (λ (y : _) (n : ℕ). y ∷ drop n xs) (sym e) (sym (add-one i))
+
+-- of exchanges whose rest is as it was, the calls that are left
+pub calls_next : {C A : Type 0} (es was : List (Exchange C A)) (i : ℕ) (e : Exchange C A) → drop i es ≡ drop i was → i < length es → e ≡ get_or es i e →
+    calls_of (drop i was) ≡ (get_or es i e).call ∷ calls_of (drop (i + 1) was)
+calls_next es was i e same h is =
+    let first : drop i was ≡ e ∷ drop (i + 1) es = sym same ∙ next_left es i e h is in
+    let rest : drop (i + 1) was ≡ drop (i + 1) es = sym (drop-drop 1 i was) ∙ ap (drop 1) first in
+    ap calls_of first ∙ ap₂ (λ (x : Exchange _ _) (l : List (Exchange _ _)). x.call ∷ calls_of l) is (sym rest)
+
+-- one call more of exchanges, of which those so far are answered and the rest is as it was
+module _ {S C A : Type 0} (answer : S → C → A) (after : S → C → S) (s t : S) (es was : List (Exchange C A)) (i : ℕ) (e : Exchange C A) (same : drop i es ≡ drop i was) (h : i < length es) (is : e ≡ get_or es i e) (now : t ≡ after s (get_or es i e).call) where
+  abbrev call : C
+  call = (get_or es i e).call
+
+  abbrev left : List C
+  left = calls_of (drop (i + 1) was)
+
+  -- those so far, with those that are left answered, are what they were
+  pub answered_more : (x : A) → x ≡ answer s call →
+      take (i + 1) (set es i (record { call = call; answer = x })) ++ answered_all answer after t left ≡ take i es ++ answered_all answer after s (calls_of (drop i was))
+  answered_more x told =
+      let first : answered_all answer after s (calls_of (drop i was)) ≡ record { call = call; answer = answer s call } ∷ answered_all answer after (after s call) left =
+      ap (answered_all answer after s) (calls_next es was i e same h is) in
+      ap (λ (l : List (Exchange C A)). l ++ answered_all answer after t left) (take_more_set es i (record { call = call; answer = x }) h) ∙
+      append_assoc (take i es) (record { call = call; answer = x } ∷ []) (answered_all answer after t left) ∙
+      ap (λ (l : List (Exchange C A)). take i es ++ l)
+      (ap₂ (λ (y : A) (u : S). record { call = call; answer = y } ∷ answered_all answer after u left) told now ∙ sym first)
+
+  pub after_more_exchanges : after_all after t left ≡ after_all after s (calls_of (drop i was))
+  after_more_exchanges = ap (λ (u : S). after_all after u left) now ∙ sym (ap (after_all after s) (calls_next es was i e same h is))
 
 -- after one more call, the answers that are left are those to what is left
 pub answers_more : (s t : DeviceState) (cs : List DeviceCall) (i : ℕ) (c : DeviceCall) (x : Answer) → i < length cs → c ≡ get_or cs i c →

@@ -1,5 +1,5 @@
 -- What each call on a device answers, by the conditions in their order, and what the device means afterwards.
-use Rattle.std.specs.Prelude.{ℕ, ◌^◌, Bool, cond, length, Some, None, Ok, Err, Result, nat_lt, slice_index_or, slice_set}
+use Rattle.std.specs.Prelude.{ℕ, ◌^◌, Bool, cond, List, [], ◌∷◌, length, Some, None, Ok, Err, Result, nat_lt, slice_index_or, slice_set}
 use Rattle.rows.specs.declared.refusal.Refusal.{Refusal}
 use Rattle.rows.specs.declared.refusal.Refusal.TheVariants.{NumberOutsideWidth, NoSuchSlot, RowOutsideWidth}
 use Rattle.rows.specs.declared.row.Row.{Row}
@@ -31,3 +31,8 @@ after_mute s on = record { width = s.width; slots = s.slots; muted = on }
 
 abbrev pub ask_answer : DeviceState → ℕ → Result Bool Refusal
 ask_answer s x = cond (nat_lt x (2 ^ s.width)) (Ok (says s x)) (Err NumberOutsideWidth)
+
+-- the slot that a call has put or emptied, or none if it was refused
+abbrev pub written_by : {X : Type 0} → ℕ → Result X Refusal → List ℕ
+written_by slot (Ok x) = slot ∷ []
+written_by slot (Err e) = []

@@ -40,3 +40,7 @@ pub record Level : Type 0 where
 pub record Beneath (s : DeviceState) (l : Level) : Type 0 where
   pub carries : Carries s.width l.carrying
   pub slots_carried : l.slots ≡ carried_slots l.carrying.row_there s.slots
+
+-- the ways that lead to the levels
+abbrev pub carryings : List Level → List Carrying
+carryings levels = map (λ l. l.carrying) levels

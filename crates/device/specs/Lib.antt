@@ -1,6 +1,8 @@
 pub mod States
 pub mod Answers
 pub mod Levels
+pub mod KeptBeside
+pub mod KeptBesideLaws
 pub mod MadeRows
 pub mod Exchanges
 pub mod Replays

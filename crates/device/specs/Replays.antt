@@ -1,5 +1,5 @@
 -- What a device of a given meaning answers to a list of calls.
-use Rattle.std.specs.Prelude.{List, [], ◌∷◌, Ok, Err, Result}
+use Rattle.std.specs.Prelude.{ℕ, List, [], ◌∷◌, Ok, Err, Result}
 use Rattle.rows.specs.declared.refusal.Refusal.{Refusal}
 use Rattle.device.specs.declared.call.DeviceCall.{DeviceCall}
 use Rattle.device.specs.declared.call.DeviceCall.TheVariants.{Put, Empty, Read, Mute, Ask}
@@ -7,8 +7,8 @@ use Rattle.device.specs.declared.call.DeviceAnswer.{DeviceAnswer}
 use Rattle.device.specs.declared.call.DeviceAnswer.TheVariants.{Done, Holds, Says}
 use Rattle.device.specs.declared.exchange.Exchange.{Exchange}
 use Rattle.device.specs.States.{DeviceState}
-use Rattle.device.specs.Exchanges.{after_all, answered_all, calls_of}
-use Rattle.device.specs.Answers.{put_answer, after_put, empty_answer, after_empty, read_answer, after_mute, ask_answer}
+use Rattle.device.specs.Exchanges.{after_all, answered_all, calls_of, written_all}
+use Rattle.device.specs.Answers.{put_answer, after_put, empty_answer, after_empty, read_answer, after_mute, ask_answer, written_by}
 
 -- an answer as a value: what was granted, or the refusal
 abbrev pub Answer : Type 0
@@ -33,6 +33,14 @@ after_call s (Read slot) = s
 after_call s (Mute on) = after_mute s on
 after_call s (Ask number) = s
 
+-- the slots that one call has put or emptied
+abbrev pub call_writes : DeviceState → DeviceCall → List ℕ
+call_writes s (Put slot row) = written_by slot (put_answer s slot row)
+call_writes s (Empty slot) = written_by slot (empty_answer s slot)
+call_writes s (Read slot) = []
+call_writes s (Mute on) = []
+call_writes s (Ask number) = []
+
 -- the answers to a list of calls, and the meaning after them all
 abbrev pub answers_to : DeviceState → List DeviceCall → List Answer
 answers_to s [] = []
@@ -44,3 +52,7 @@ after_calls = after_all after_call
 -- the exchanges with each answer beside its call
 abbrev pub answered : DeviceState → List (Exchange DeviceCall Answer) → List (Exchange DeviceCall Answer)
 answered s exchanges = answered_all answer_to after_call s (calls_of exchanges)
+
+-- the slots that a list of calls has put or emptied, in order
+abbrev pub writes_of : DeviceState → List DeviceCall → List ℕ
+writes_of = written_all call_writes after_call

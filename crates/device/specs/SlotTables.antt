@@ -1,8 +1,8 @@
 -- What the records of a slot table mean.
-use Rattle.std.specs.Prelude.{ℕ, ◌%◌, ◌^◌, min, Bool, true, false, cond, List, ◌++◌, map, length, take, drop, replicate, Some, None, Ok, Err, Result, slice_set}
+use Rattle.std.specs.Prelude.{◌≡◌, ℕ, ◌%◌, ◌^◌, Bool, true, false, cond, List, ◌++◌, map, take, drop, Some, None, Ok, Err, Result, slice_get, slice_set}
+use Rattle.std.specs.List.{Contains}
 use Rattle.rows.specs.Widths.{places_of}
 use Rattle.rows.specs.declared.refusal.Refusal.{Refusal}
-use Rattle.rows.specs.declared.row.Row.{Row}
 use Rattle.device.specs.declared.slot_record.SlotRecord.{SlotRecord}
 use Rattle.device.specs.declared.slot_table.SlotTable.{SlotTable}
 use Rattle.device.specs.States.{Slot, DeviceState}
@@ -30,19 +30,28 @@ spare_records t = drop 120 t.records.now
 abbrev pub records_of : SlotTable → List SlotRecord
 records_of t = t.records.now
 
--- the record of an empty slot
-abbrev pub empty_record : SlotRecord
-empty_record = record { filled = false; value = 0; care = 0 }
+-- which record a slot has
+abbrev pub record_of : Slot → SlotRecord
+record_of (Some row) = record { filled = true; value = row.value; care = row.care }
+record_of None = record { filled = false; value = 0; care = 0 }
 
--- a new table empties its slots, and leaves the other records
-abbrev pub records_begun : List SlotRecord → List SlotRecord
-records_begun records = replicate (min 120 (length records)) empty_record ++ drop (min 120 (length records)) records
+-- memory with the records of these slots; the spare ones, beyond the 120th, are those that lay there before
+abbrev pub memory_with : List Slot → List SlotRecord → List SlotRecord
+memory_with slots before = map record_of slots ++ drop 120 before
 
 -- a granted call writes the record of its slot, and a refused one nothing
 abbrev pub records_after : {X : Type 0} → Result X Refusal → List SlotRecord → ℕ → SlotRecord → List SlotRecord
 records_after (Ok x) records slot r = slice_set records slot r
 records_after (Err e) records slot r = records
 
--- a put writes the words of its row
-abbrev pub record_filled : Row → SlotRecord
-record_filled row = record { filled = true; value = row.value; care = row.care }
+-- the memory of a table is that of its slots
+abbrev pub OfItsSlots : SlotTable → Type 0
+OfItsSlots t = records_of t ≡ memory_with (slot_table_state t).slots (records_of t)
+
+-- from the one moment to the other a table put or emptied these slots: it holds the very memory that it was lent; spare
+-- records, and those of slots that were not written, are as they were; memory that was that of its slots still is
+pub record KeepsRecords (t : SlotTable) (written : List ℕ) (u : SlotTable) : Type 0 where
+  pub same_memory : u.records.ghost_name ≡ t.records.ghost_name
+  pub spare : spare_records u ≡ spare_records t
+  pub unwritten : (slot : ℕ) → ¬ Contains written slot → slice_get (records_of u) slot ≡ slice_get (records_of t) slot
+  pub of_its_slots : OfItsSlots t → OfItsSlots u

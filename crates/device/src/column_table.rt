@@ -1,5 +1,5 @@
 // The column table: a device that keeps its slots by columns.
-ghost use Rattle.std.specs.Prelude.{◌≡◌, ℕ, ◌<◌, ◌≤◌, min, ◌&&◌, if◌then◌else◌, nat_eq, nat_lt, slice_index_or, IfOk, IfErr};
+ghost use Rattle.std.specs.Prelude.{◌≡◌, ℕ, ◌<◌, ◌≤◌, [], min, ◌&&◌, if◌then◌else◌, nat_eq, nat_lt, slice_index_or, IfOk, IfErr};
 ghost use Rattle.covers.specs.Digits.{digit};
 ghost use Rattle.rows.specs.declared.refusal.Refusal.TheVariants.{NoSuchSlot};
 ghost use Rattle.rows.specs.Widths.{places_of};
@@ -29,11 +29,11 @@ pub struct ColumnTable {
 }
 
 impl ColumnTable {
-    ghost use Rattle.device.specs.ColumnTables.{column_table_state};
-
     // A table of so many slots, or of 120 if more are wished, its slots empty and the mute off.
     pub fn new(width: Width, slots: usize) -> ColumnTable
-        ensures begins { column_table_state result ≡ blank_state (places_of width) (min 120 slots) }
+        ensures begins { ⟦<ColumnTable as RowDevice>⟧.state result ≡
+            blank_state (places_of width) (min 120 slots) }
+        ensures no_levels { ⟦<ColumnTable as RowDevice>⟧.levels result ≡ [] }
     {
         ColumnTable {
             width,
@@ -96,7 +96,16 @@ impl RowDevice for ColumnTable {
 
     ghost lawful = { λ t. column_table_lawful t };
 
+    ghost levels = { λ _. [] };
+
     ghost beneath = { λ _. tt };
+
+    // nothing lies beside its meaning
+    ghost keeps = { λ _ _ _. Unit {0} };
+
+    ghost keeps_at_rest = { λ _. tt };
+
+    ghost keeps_on = { λ _ _ _ _ _ _ _. tt };
 
     fn put(&mut self, slot: usize, row: Row) -> Result<(), Refusal> {
         let slot = self.check_slot(slot)?;

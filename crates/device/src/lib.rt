@@ -7,6 +7,8 @@ mod column;
 pub mod column_table;
 pub mod device;
 pub mod exchange;
+pub mod lent;
+pub mod lent_device;
 pub mod replay;
 pub mod slot_record;
 mod slot_set;

@@ -1,7 +1,8 @@
 // Lists of calls, played on any device: the answers hang on what the device means, and on nothing else.
 ghost use Rattle.std.specs.Prelude.{◌≡◌, true};
+ghost use Rattle.device.specs.KeptBeside.{KeptBeside};
 ghost use Rattle.device.specs.Exchanges.{calls_of};
-ghost use Rattle.device.specs.Replays.{answer_to, after_call, answers_to, after_calls, answered};
+ghost use Rattle.device.specs.Replays.{answer_to, after_call, answers_to, after_calls, answered, call_writes, writes_of};
 
 use super::call::{DeviceAnswer, DeviceCall, DeviceExchange};
 use super::device::RowDevice;
@@ -11,6 +12,8 @@ use rows::refusal::Refusal;
 pub fn perform<D: RowDevice>(device: &mut D, call: DeviceCall) -> Result<DeviceAnswer, Refusal>
     ensures answer { result ≡ answer_to (D.RowDevice.state device.old) call }
     ensures after { D.RowDevice.state device.new ≡ after_call (D.RowDevice.state device.old) call }
+    ensures beside { KeptBeside D.RowDevice device.old (call_writes (D.state device.old) call)
+        device.new }
 {
     match call {
         DeviceCall::Put { slot, row } => {
@@ -40,6 +43,8 @@ pub fn perform<D: RowDevice>(device: &mut D, call: DeviceCall) -> Result<DeviceA
 pub fn replay<D: RowDevice>(device: &mut D, exchanges: &mut [DeviceExchange])
     ensures answers { exchanges.new ≡ answered (D.RowDevice.state device.old) exchanges.old }
     ensures after { D.RowDevice.state device.new ≡ after_calls (D.RowDevice.state device.old) (calls_of exchanges.old) }
+    ensures beside { KeptBeside D.RowDevice device.old
+        (writes_of (D.state device.old) (calls_of exchanges.old)) device.new }
 {
     // as in the replayed calls of a filter, whose answers follow from a ledger: one loop for both would be longer
     for exchange in exchanges.iter_mut() {
@@ -58,6 +63,10 @@ pub fn answer_alike<A: RowDevice, B: RowDevice>(
     ensures only_alike { result ≡ true → answers_to (A.RowDevice.state first.old) calls.now ≡ answers_to (B.RowDevice.state second.old) calls.now }
     ensures first_after { A.RowDevice.state first.new ≡ after_calls (A.RowDevice.state first.old) calls.now }
     ensures second_after { B.RowDevice.state second.new ≡ after_calls (B.RowDevice.state second.old) calls.now }
+    ensures first_beside { KeptBeside A.RowDevice first.old
+        (writes_of (A.state first.old) calls.now) first.new }
+    ensures second_beside { KeptBeside B.RowDevice second.old
+        (writes_of (B.state second.old) calls.now) second.new }
 {
     let mut alike = true;
     for call in calls {

@@ -1,5 +1,5 @@
 // The record of one slot.
-ghost use Rattle.std.specs.Prelude.{◌≡◌};
+ghost use Rattle.std.specs.Prelude.{◌≡◌, Some};
 ghost use Rattle.rows.specs.Widths.{places_of};
 
 use rows::row::Row;
@@ -38,9 +38,9 @@ impl SlotRecord {
 }
 
 impl From<Row> for SlotRecord {
-    ghost use Rattle.device.specs.SlotTables.{record_filled};
+    ghost use Rattle.device.specs.SlotTables.{record_of};
 
-    ghost from_gives = { λ row r. r ≡ record_filled row };
+    ghost from_gives = { λ row r. r ≡ record_of (Some row) };
 
     // The record of a slot that holds the row.
     fn from(row: Row) -> SlotRecord {

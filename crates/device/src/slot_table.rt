@@ -1,5 +1,5 @@
 // The slot table: a device whose slots are records in the caller's memory.
-ghost use Rattle.std.specs.Prelude.{◌≡◌, min, length, drop};
+ghost use Rattle.std.specs.Prelude.{◌≡◌, [], min, length, replicate, drop};
 ghost use Rattle.rows.specs.Widths.{places_of};
 ghost use Rattle.device.specs.States.{blank_state};
 
@@ -19,13 +19,17 @@ pub struct SlotTable<'a> {
 }
 
 impl<'a> SlotTable<'a> {
-    ghost use Rattle.device.specs.SlotTables.{records_begun, records_of, slot_table_state, spare_records};
+    ghost use Rattle.device.specs.SlotTables.{memory_with, records_of, spare_records};
 
     // A table over the caller's records, its slots empty and the mute off.
     pub fn new(width: Width, records: &'a mut [SlotRecord]) -> SlotTable<'a>
-        ensures begins { slot_table_state result ≡ blank_state (places_of width) (min 120 (length records.old)) }
+        ensures begins { ⟦<SlotTable<'a> as RowDevice>⟧.state result ≡
+            blank_state (places_of width) (min 120 (length records.old)) }
+        ensures no_levels { ⟦<SlotTable<'a> as RowDevice>⟧.levels result ≡ [] }
         ensures rest { spare_records result ≡ drop 120 records.old }
-        ensures memory { records_of result ≡ records_begun records.old }
+        ensures memory { records_of result ≡
+            memory_with (replicate (min 120 (length records.old)) None) records.old }
+        ensures same_memory { result.records.ghost_name ≡ records.entry.ghost_name }
     {
         let used = records.len().min(MOST_SLOTS);
         records[..used].fill(SlotRecord::EMPTY);
@@ -39,21 +43,35 @@ impl<'a> SlotTable<'a> {
 
 #[tactic(auto, using(crate::proofs::Tables::table_length))]
 impl RowDevice for SlotTable<'_> {
-    ghost use Rattle.device.specs.Answers.{put_answer, after_put, empty_answer, after_empty, after_mute};
-    ghost use Rattle.device.specs.SlotTables.{empty_record, record_filled, records_after, records_of, slot_table_state, spare_records};
-    ghost use Rattle.device.specs.SlotTableLaws.{table_lawful};
+    ghost use Rattle.device.specs.Answers.{put_answer, after_put, empty_answer, after_empty, after_mute, written_by};
+    ghost use Rattle.device.specs.Levels.{carryings};
+    ghost use Rattle.device.specs.SlotTables.{record_of, records_after, records_of, slot_table_state, spare_records, KeepsRecords};
+    ghost use Rattle.device.specs.SlotTableLaws.{table_lawful, keeps_at_rest, keeps_on};
 
     ghost state = { λ t. slot_table_state t };
 
     ghost lawful = { λ t. table_lawful t };
 
+    ghost levels = { λ _. [] };
+
     ghost beneath = { λ _. tt };
 
+    ghost keeps = { KeepsRecords };
+
+    ghost keeps_at_rest = { λ t. keeps_at_rest t };
+
+    ghost keeps_on = { λ t u v before after h k. keeps_on t u v before after h k };
+
     fn put(&mut self, slot: usize, row: Row) -> Result<(), Refusal>
-        ensures answer { result ≡ put_answer (slot_table_state self.old) slot row }
-        ensures after { slot_table_state self.new ≡ after_put (slot_table_state self.old) slot row }
+        ensures answer { result ≡ put_answer (⟦<Self as RowDevice>⟧.state self.old) slot row }
+        ensures after { ⟦<Self as RowDevice>⟧.state self.new ≡
+            after_put (⟦<Self as RowDevice>⟧.state self.old) slot row }
+        ensures beside { ⟦<Self as RowDevice>⟧.keeps self.old (written_by slot result) self.new }
+        ensures same_ways { carryings (⟦<Self as RowDevice>⟧.levels self.new) ≡
+            carryings (⟦<Self as RowDevice>⟧.levels self.old) }
         ensures rest { spare_records self.new ≡ spare_records self.old }
-        ensures memory { records_of self.new ≡ records_after result (records_of self.old) slot (record_filled row) }
+        ensures memory { records_of self.new ≡
+            records_after result (records_of self.old) slot (record_of (Some row)) }
     {
         check_slot(slot, self.slot_count())?;
         check_row(row, self.width)?;
@@ -62,10 +80,15 @@ impl RowDevice for SlotTable<'_> {
     }
 
     fn empty(&mut self, slot: usize) -> Result<(), Refusal>
-        ensures answer { result ≡ empty_answer (slot_table_state self.old) slot }
-        ensures after { slot_table_state self.new ≡ after_empty (slot_table_state self.old) slot }
+        ensures answer { result ≡ empty_answer (⟦<Self as RowDevice>⟧.state self.old) slot }
+        ensures after { ⟦<Self as RowDevice>⟧.state self.new ≡
+            after_empty (⟦<Self as RowDevice>⟧.state self.old) slot }
+        ensures beside { ⟦<Self as RowDevice>⟧.keeps self.old (written_by slot result) self.new }
+        ensures same_ways { carryings (⟦<Self as RowDevice>⟧.levels self.new) ≡
+            carryings (⟦<Self as RowDevice>⟧.levels self.old) }
         ensures rest { spare_records self.new ≡ spare_records self.old }
-        ensures memory { records_of self.new ≡ records_after result (records_of self.old) slot empty_record }
+        ensures memory { records_of self.new ≡
+            records_after result (records_of self.old) slot (record_of None) }
     {
         check_slot(slot, self.slot_count())?;
         self.records[slot] = SlotRecord::EMPTY;
@@ -78,7 +101,11 @@ impl RowDevice for SlotTable<'_> {
     }
 
     fn mute(&mut self, on: bool)
-        ensures after { slot_table_state self.new ≡ after_mute (slot_table_state self.old) on }
+        ensures after { ⟦<Self as RowDevice>⟧.state self.new ≡
+            after_mute (⟦<Self as RowDevice>⟧.state self.old) on }
+        ensures beside { ⟦<Self as RowDevice>⟧.keeps self.old [] self.new }
+        ensures same_ways { carryings (⟦<Self as RowDevice>⟧.levels self.new) ≡
+            carryings (⟦<Self as RowDevice>⟧.levels self.old) }
         ensures rest { spare_records self.new ≡ spare_records self.old }
         ensures memory { records_of self.new ≡ records_of self.old }
     {

@@ -1,4 +1,4 @@
-use Rattle.std.proofs.Common.{◌≡◌, ℕ, min, false, List, replicate, None, ap, ◌∙◌, arith}
+use Rattle.std.proofs.Common.{◌≡◌, ℕ, min, false, List, replicate, None, refl, ap, ◌∙◌, arith}
 use Rattle.rows.proofs.Widths.{places_some}
 use Rattle.rows.specs.Widths.{places_of}
 use Rattle.device.specs.States.{Slot, DeviceState}
@@ -12,4 +12,5 @@ returns c =
     record {
       begins = ap {B = DeviceState} (λ (l : List Slot). record { width = n; slots = l; muted = false })
           (blank_slots n c.min.result (places_some c.args.width) ∙ ap (λ (k : ℕ). replicate k None) count);
+      no_levels = refl;
     }

@@ -1,7 +1,7 @@
-use Rattle.std.proofs.Common.{◌<◌, length, rules}
+use Rattle.std.proofs.Common.{◌<◌, None, length, refl, rules}
 use Rattle.rows.specs.Widths.{places_of}
-use Rattle.device.specs.SlotTables.{empty_record, table_slots}
-use Rattle.device.proofs.Tables.{spare_kept, slots_emptied}
+use Rattle.device.specs.SlotTables.{record_of, table_slots}
+use Rattle.device.proofs.Tables.{keeps_written, spare_kept, slots_emptied}
 use Rattle.device.proofs.slot_table.SlotTableRowDevice.empty.Goals as goal
 
 pub returns-clause-after : goal.returns-clause-after
@@ -14,4 +14,10 @@ pub returns-clause-rest : goal.returns-clause-rest
 returns-clause-rest c =
     let t = c.args.self.now in
     let within : c.args.slot < length (table_slots (places_of t.width) t.records.now) = search rules in
-    spare_kept (places_of t.width) t.records.now c.args.slot empty_record within
+    spare_kept (places_of t.width) t.records.now c.args.slot (record_of None) within
+
+pub returns-clause-beside : goal.returns-clause-beside
+returns-clause-beside c =
+    let t = c.args.self.now in
+    let within : c.args.slot < length (table_slots (places_of t.width) t.records.now) = search rules in
+    keeps_written t c.args.slot None (record_of None) within tt refl

@@ -1,8 +1,8 @@
-use Rattle.std.proofs.Common.{◌^◌, ◌<◌, length, set, ap, ◌∙◌, rules}
+use Rattle.std.proofs.Common.{◌^◌, ◌<◌, Some, length, set, ap, ◌∙◌, rules}
 use Rattle.rows.specs.Widths.{places_of}
 use Rattle.device.specs.declared.slot_record.SlotRecord.{SlotRecord}
 use Rattle.device.specs.SlotTables.{table_slots, table_state}
-use Rattle.device.proofs.Tables.{spare_kept, slots_put}
+use Rattle.device.proofs.Tables.{keeps_written, spare_kept, slots_put}
 use Rattle.device.proofs.slot_table.SlotTableRowDevice.put.Goals as goal
 
 pub returns-clause-after : goal.returns-clause-after
@@ -18,3 +18,10 @@ returns-clause-rest c =
     let t = c.args.self.now in
     let within : c.args.slot < length (table_slots (places_of t.width) t.records.now) = search rules in
     spare_kept (places_of t.width) t.records.now c.args.slot c.from.result within
+
+pub returns-clause-beside : goal.returns-clause-beside
+returns-clause-beside c =
+    let t = c.args.self.now in
+    let within : c.args.slot < length (table_slots (places_of t.width) t.records.now) = search rules in
+    let fit : c.args.row.care < 2 ^ (places_of t.width) = search rules in
+    keeps_written t c.args.slot (Some c.args.row) c.from.result within fit c.from.ensures
