@@ -26,11 +26,11 @@ digit_number zero h = refl
 digit_number (suc zero) h = refl
 digit_number (suc (suc m)) h = absurd (not-suc-le-zero (le_of_suc-le-suc (le_of_suc-le-suc h)))
 
-turned_none : (x : ℕ) → turned 0 x ≡ 0
+pub turned_none : (x : ℕ) → turned 0 x ≡ 0
 unfolding turned value
 turned_none x = refl
 
-turned_more : (i x : ℕ) → turned (i + 1) x ≡ turned i x * 2 + x / 2 ^ i % 2
+pub turned_more : (i x : ℕ) → turned (i + 1) x ≡ turned i x * 2 + x / 2 ^ i % 2
 turned_more i x =
     ap (λ k. turned k x) (add-one i) ∙ turned_is (suc i) x ∙ ap value (reverse-cons (digit i x) (digits i x)) ∙ value_push (reverse (digits i x)) (digit i x) ∙
     ap₂ (λ (v d : ℕ). v * 2 + d) (sym (turned_is i x)) (digit_number (x / 2 ^ i % 2) (mod-lt (x / 2 ^ i) (zero-lt-suc 1)))

@@ -1,7 +1,7 @@
 // The flip: a line map that exchanges 0 and 1 at some places.
 ghost use Rattle.std.specs.Prelude.{◌≡◌, ◌%◌, ◌^◌};
 ghost use Rattle.rows.specs.Widths.{places_of};
-ghost use Rattle.layers.specs.Flips.{flip_carrying};
+ghost use Rattle.layers.specs.Flips.{flip_carrying, FlipsDigits, FlipsSymbols};
 ghost use Rattle.layers.specs.FlipLaws.{flip_carries};
 
 use super::line_map::LineMap;
@@ -28,21 +28,37 @@ impl LineMap for Flip {
 
     ghost carries = { λ m n _ _. flip_carries m.mask n };
 
-    fn number_there(&self, width: Width, number: u64) -> u64 {
+    fn number_there(&self, width: Width, number: u64) -> u64
+        ensures carried { result ≡
+            (⟦<Self as LineMap>⟧.carrying self.now (places_of width)).number_there number }
+        ensures by_digits { FlipsDigits self.now.mask (places_of width) number result }
+    {
         number ^ u64::from(self.marked(width))
     }
 
     // The way there once more, on a line of its own: the trait asks for both ways, since a map may have another way back.
-    fn number_back(&self, width: Width, number: u64) -> u64 {
+    fn number_back(&self, width: Width, number: u64) -> u64
+        ensures carried { result ≡
+            (⟦<Self as LineMap>⟧.carrying self.now (places_of width)).number_back number }
+        ensures by_digits { FlipsDigits self.now.mask (places_of width) number result }
+    {
         self.number_there(width, number)
     }
 
-    fn row_there(&self, width: Width, row: Row) -> Row {
+    fn row_there(&self, width: Width, row: Row) -> Row
+        ensures carried { result ≡
+            (⟦<Self as LineMap>⟧.carrying self.now (places_of width)).row_there row }
+        ensures by_symbols { FlipsSymbols self.now.mask (places_of width) row result }
+    {
         let marked = self.marked(width);
         Row::new(row.value() ^ marked, row.care())
     }
 
-    fn row_back(&self, width: Width, row: Row) -> Row {
+    fn row_back(&self, width: Width, row: Row) -> Row
+        ensures carried { result ≡
+            (⟦<Self as LineMap>⟧.carrying self.now (places_of width)).row_back row }
+        ensures by_symbols { FlipsSymbols self.now.mask (places_of width) row result }
+    {
         self.row_there(width, row)
     }
 }

@@ -1,5 +1,8 @@
 // The layer: a device that carries everything to the lines of the device below it.
-ghost use Rattle.std.specs.Prelude.{◌≡◌};
+ghost use Rattle.std.specs.Prelude.{◌≡◌, refl};
+ghost use Rattle.std.proofs.Common.{◌∙◌};
+ghost use Rattle.device.specs.KeptBeside.{KeptBeside};
+ghost use Rattle.device.specs.KeptBesideLaws.{kept_at_rest, kept_on};
 ghost use Rattle.layers.specs.Layers.{layer_state, layer_levels, number_below, row_below};
 ghost use Rattle.layers.specs.LayerLaws.{layer_lawful, layer_beneath};
 
@@ -21,6 +24,10 @@ impl<M: LineMap, D: RowDevice> Layer<M, D> {
     pub fn new(map: M, device: D) -> Layer<M, D>
         ensures map { result.map ≡ map }
         ensures below { result.below ≡ device }
+        ensures means { ⟦<Layer<M, D> as RowDevice>⟧.state result ≡
+            layer_state (M.carrying map) (D.state device) }
+        ensures levels { ⟦<Layer<M, D> as RowDevice>⟧.levels result ≡
+            layer_levels (M.carrying map) (D.state device) (D.levels device) }
     {
         Layer { map, below: device }
     }
@@ -29,6 +36,10 @@ impl<M: LineMap, D: RowDevice> Layer<M, D> {
     pub fn into_parts(self) -> (M, D)
         ensures map { result.0 ≡ self.map }
         ensures below { result.1 ≡ self.below }
+        ensures means { ⟦<Layer<M, D> as RowDevice>⟧.state self ≡
+            layer_state (M.carrying result.0) (D.state result.1) }
+        ensures levels { ⟦<Layer<M, D> as RowDevice>⟧.levels self ≡
+            layer_levels (M.carrying result.0) (D.state result.1) (D.levels result.1) }
     {
         let Layer { map, below } = self;
         (map, below)
@@ -66,6 +77,7 @@ impl<M: LineMap, D: RowDevice> Layer<M, D> {
     }
 }
 
+#[tactic(auto, using(crate::proofs::Ways::ways_after_put, crate::proofs::Ways::ways_after_empty, crate::proofs::Ways::ways_same))]
 impl<M: LineMap, D: RowDevice> RowDevice for Layer<M, D> {
     ghost state = { λ l. layer_state (M.LineMap.carrying l.map) (D.RowDevice.state l.below) };
 
@@ -74,6 +86,13 @@ impl<M: LineMap, D: RowDevice> RowDevice for Layer<M, D> {
     ghost levels = { λ l. layer_levels (M.LineMap.carrying l.map) (D.RowDevice.state l.below) (D.RowDevice.levels l.below) };
 
     ghost beneath = { λ l. layer_beneath (M.LineMap.carrying l.map) (D.RowDevice.state l.below) (D.RowDevice.levels l.below) (M.LineMap.carries l.map) (D.RowDevice.lawful l.below) (D.RowDevice.beneath l.below) };
+
+    // the map stays, and so does what the device below keeps
+    ghost keeps = { λ k written l. (l.map ≡ k.map) × KeptBeside D.RowDevice k.below written l.below };
+
+    ghost keeps_at_rest = { λ l. (refl, kept_at_rest D.RowDevice l.below) };
+
+    ghost keeps_on = { λ k l m before after g h. (h.0 ∙ g.0, kept_on D.RowDevice k.below l.below m.below before after g.1 h.1) };
 
     fn put(&mut self, slot: usize, row: Row) -> Result<(), Refusal> {
         let carried = self.row_below(row);

@@ -1,7 +1,7 @@
 // The turn: a line map that reads the places from the other end.
 ghost use Rattle.std.specs.Prelude.{◌≡◌, ◌^◌, ◌<◌};
 ghost use Rattle.rows.specs.Widths.{places_of};
-ghost use Rattle.layers.specs.Turns.{turned, turn_carrying};
+ghost use Rattle.layers.specs.Turns.{turned, turn_carrying, TurnsDigits, TurnsSymbols};
 ghost use Rattle.layers.specs.TurnLaws.{turn_carries};
 
 use super::line_map::LineMap;
@@ -17,22 +17,38 @@ impl LineMap for Turn {
 
     ghost carries = { λ _ n _ _. turn_carries n };
 
-    fn number_there(&self, width: Width, number: u64) -> u64 {
+    fn number_there(&self, width: Width, number: u64) -> u64
+        ensures carried { result ≡
+            (⟦<Self as LineMap>⟧.carrying self.now (places_of width)).number_there number }
+        ensures by_digits { TurnsDigits (places_of width) number result }
+    {
         read_backwards(number, width)
     }
 
     // The way there once more, on a line of its own: the trait asks for both ways, since a map may have another way back.
-    fn number_back(&self, width: Width, number: u64) -> u64 {
+    fn number_back(&self, width: Width, number: u64) -> u64
+        ensures carried { result ≡
+            (⟦<Self as LineMap>⟧.carrying self.now (places_of width)).number_back number }
+        ensures by_digits { TurnsDigits (places_of width) number result }
+    {
         self.number_there(width, number)
     }
 
-    fn row_there(&self, width: Width, row: Row) -> Row {
+    fn row_there(&self, width: Width, row: Row) -> Row
+        ensures carried { result ≡
+            (⟦<Self as LineMap>⟧.carrying self.now (places_of width)).row_there row }
+        ensures by_symbols { TurnsSymbols (places_of width) row result }
+    {
         let value = read_backwards(u64::from(row.value()), width) as u32;
         let care = read_backwards(u64::from(row.care()), width) as u32;
         Row::new(value, care)
     }
 
-    fn row_back(&self, width: Width, row: Row) -> Row {
+    fn row_back(&self, width: Width, row: Row) -> Row
+        ensures carried { result ≡
+            (⟦<Self as LineMap>⟧.carrying self.now (places_of width)).row_back row }
+        ensures by_symbols { TurnsSymbols (places_of width) row result }
+    {
         self.row_there(width, row)
     }
 }
