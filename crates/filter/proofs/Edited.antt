@@ -1,5 +1,6 @@
 -- An edit by the table of runs, and by the ledger.
-use Rattle.std.proofs.Common.{◌≡◌, ℕ, ◌<◌, ◌≤◌, Bool, true, false, ◌&&◌, eqb, length, Ok, Err, Result, sym, refl, ap, ◌∙◌, subst, ap₂, arith}
+use Rattle.std.proofs.Common.{◌≡◌, ℕ, ◌<◌, ◌≤◌, Bool, true, false, ◌&&◌, eqb, List, [], ◌∷◌, length, Ok, Err, Result, sym, refl, ap, ◌∙◌, subst, ap₂, arith}
+use Rattle.std.proofs.Props.{props}
 use Rattle.std.specs.List.{AllByRecursion}
 use Rattle.std.proofs.lemmas.Bool.{le-leb, lt-leb}
 use Rattle.covers.specs.Rivals.{NumberSet}
@@ -82,12 +83,39 @@ slots_known d f b s = ap length s.slots ∙ placed_length b.slots (ledger_rows b
 pub table_proper : (n : ℕ) (S : NumberSet) (t : RunTable) → table_runs t ≡ runs n S → AllByRecursion (λ r. Run n r.0 r.1) (table_runs t)
 table_proper n S t e = subst (AllByRecursion (λ r. Run n r.0 r.1)) (sym e) (runs_untouched.proper n S)
 
+-- the runs of a table are proper, and their rows fit so many slots
+pub record Placeable (n : ℕ) (t : RunTable) (slots : ℕ) : Type 0 where
+  pub proper : AllByRecursion (λ r. Run n r.0 r.1) (table_runs t)
+  pub fit : length (rows_of_runs n (table_runs t)) ≤ slots
+
+run_prop : (n f l : ℕ) → IsProp (Run n f l)
+run_prop n f l = hlevel props
+
+runs_prop : (n : ℕ) (rs : List (ℕ × ℕ)) → IsProp (AllByRecursion (λ r. Run n r.0 r.1) rs)
+runs_prop n [] = hlevel props
+runs_prop n (r ∷ rs) = hlevel (props, run_prop n r.0 r.1, runs_prop n rs)
+
+pub placeable_prop : (n : ℕ) (t : RunTable) (slots : ℕ) → IsProp (Placeable n t slots)
+placeable_prop n t slots = hlevel (props, runs_prop n (table_runs t))
+
 -- an edit that is granted, from what its calls promise: the answer is the ledger's, and the parts stand for its next state
 module _ {D : Type 0} (d : Ghosts D) (f : Filter D d) (b : Ledger) (s : StandsFor d f b) (token : ℕ) (e : Edit) (fits : token_fits b token ≡ true) (n : ℕ) (its_width : n ≡ (d.state f.device).width) (r : Result RunTable Refusal) (yes : (S : NumberSet) → TableOf n S f.runs → edit_in_width n e ≡ true → EditAnswered n e S r) (no : edit_in_width n e ≡ false → r ≡ Err NumberOutsideWidth) (t : RunTable) (is : r ≡ Ok t) where
+  -- the runs after it are proper, and their rows fit the slots
+  pub edit_placeable : (rows : ℕ) → ((S : NumberSet) → TableOf n S t → rows ≡ length (rows_of_set n S)) → (slots : ℕ) → slots ≡ length (d.state f.device).slots → rows ≤ slots →
+      Placeable n t (length (d.state f.device).slots)
+  edit_placeable rows counted slots known room =
+      let same = its_width ∙ s.width in
+      let now = table_grants b token e fits n same f.runs s.runs r yes no t is in
+      let S = edited e b.numbers in
+      let table = now.1 ∙ ap (λ k. runs k S) (sym same) in
+      let count = counted S table in
+      let long = ap (λ l. length (rows_of_runs n l)) table in
+      record { proper = table_proper n S t table; fit = omega arith }
+
   pub edit_granted : (rows : ℕ) → ((S : NumberSet) → TableOf n S t → rows ≡ length (rows_of_set n S)) → (slots : ℕ) → slots ≡ length (d.state f.device).slots → rows ≤ slots →
-      (after : DeviceState) → (n ≡ (d.state f.device).width → AllByRecursion (λ q. Run n q.0 q.1) (table_runs t) → length (rows_of_runs n (table_runs t)) ≤ length (d.state f.device).slots → after ≡ with_placed (d.state f.device) (rows_of_runs n (table_runs t))) →
+      (after : DeviceState) → after ≡ with_placed (d.state f.device) (rows_of_runs n (table_runs t)) →
       (edit_answer b token e ≡ Ok rows) × Standing after t f.held f.tag (with_edit b e)
-  edit_granted rows counted slots known room after placing =
+  edit_granted rows counted slots known room after moved =
       let same = its_width ∙ s.width in
       let now = table_grants b token e fits n same f.runs s.runs r yes no t is in
       let S = edited e b.numbers in
@@ -96,8 +124,7 @@ module _ {D : Type 0} (d : Ghosts D) (f : Filter D d) (b : Ledger) (s : StandsFo
       let its_slots = slots_known d f b s in
       let said = granted b token e fits now.0 now.2 (omega arith) in
       let its_rows = ap₂ rows_of_runs same now.1 in
-      let long = ap length its_rows in
-      let moved = placing its_width (table_proper n S t table) (omega arith) in (
+      let long = ap length its_rows in (
         said ∙ ap Ok (sym count),
         record {
           width = ap (λ v. v.width) moved ∙ s.width;

@@ -1,9 +1,9 @@
 -- Slots emptied one after the other.
-use Rattle.std.proofs.Common.{◌≡◌, ℕ, ◌+◌, ◌-◌, ◌<◌, ◌≤◌, min, [], ◌∷◌, length, replicate, None, sym, ap, ◌∙◌, arith}
+use Rattle.std.proofs.Common.{◌≡◌, ℕ, ◌+◌, ◌-◌, ◌<◌, ◌≤◌, min, [], ◌∷◌, length, replicate, None, sym, ap, subst, ◌∙◌, arith}
 use Rattle.std.proofs.lemmas.List.{length-replicate, replicate_more}
 use Rattle.std.proofs.lemmas.Bool.{lt-ltb}
 use Rattle.rows.specs.Memory.{written}
-use Rattle.rows.proofs.Writing.{written_one, written_join, length_written}
+use Rattle.rows.proofs.Writing.{written_none, written_one, written_join, length_written}
 use Rattle.device.specs.States.{Slot, DeviceState}
 use Rattle.device.specs.Answers.{with_slot, after_empty}
 
@@ -28,6 +28,13 @@ emptied_more s from slot le h =
     ap (λ j. written (written s.slots from (replicate (slot - from) None)) j (None ∷ [])) at ∙
     written_join (replicate (slot - from) None) (None ∷ []) s.slots from (omega arith) ∙
     ap (written s.slots from) (replicate_more (slot - from) None ∙ ap (λ j. replicate j None) more))
+
+-- no slot emptied yet
+pub emptied_none : (s : DeviceState) (from k : ℕ) → 0 ≡ k → s ≡ emptied_slots s from k
+emptied_none s from k e = subst (λ (j : ℕ). s ≡ emptied_slots s from j) e (ap (λ l. record { width = s.width; slots = l; muted = s.muted }) (sym (written_none s.slots from)))
+
+pub emptied_length : (s : DeviceState) (from k : ℕ) → from + k ≤ length s.slots → length (emptied_slots s from k).slots ≡ length s.slots
+emptied_length s from k h = let long = length-replicate {A = Slot} k None in length_written (replicate k None) s.slots from (omega arith)
 
 -- how many slots are emptied once this one is reached
 abbrev pub emptied_count : DeviceState → ℕ → ℕ → ℕ

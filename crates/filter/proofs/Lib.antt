@@ -5,3 +5,4 @@ pub mod Putting
 pub mod PlacedRuns
 pub mod Granted
 pub mod Edited
+pub mod Written

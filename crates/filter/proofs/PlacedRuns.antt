@@ -1,5 +1,5 @@
 -- The rows of several runs placed one after the other.
-use Rattle.std.proofs.Common.{◌≡◌, ℕ, zero, suc, ◌+◌, ◌<◌, ◌≤◌, List, [], ◌∷◌, ◌++◌, map, length, get_or, take, drop, sym, refl, ap, ◌∙◌, ap₂, append-nil, le_of_suc-le-suc, not-suc-le-zero, arith}
+use Rattle.std.proofs.Common.{◌≡◌, ℕ, zero, suc, ◌+◌, ◌^◌, ◌<◌, ◌≤◌, List, [], ◌∷◌, ◌++◌, map, length, get_or, take, drop, sym, refl, ap, ◌∙◌, subst, ap₂, append-nil, le_of_suc-le-suc, not-suc-le-zero, arith}
 use Rattle.std.specs.List.{AllByRecursion}
 use Rattle.std.proofs.lemmas.List.{get_or-map, append_assoc, length-map, length-append, map-append, take-append-drop, take_more}
 use Rattle.covers.specs.Symbols.{Symbols}
@@ -67,3 +67,27 @@ rows_at_range n rs i f l h k e =
     let ef = ap (λ r. r.0) e in
     let el = ap (λ r. r.1) e in
     range_proper n f l (λ z. R.proper (ef ∙ z ∙ ap (λ j. j + 1) (sym el))) ∙ ap₂ (rows_of_run n) (sym ef) (sym el)
+
+-- the next run of a table, as the table lends it
+module _ (n : ℕ) (rs : List (ℕ × ℕ)) (R : List Range) (i : ℕ) (proper : AllByRecursion (λ r. Run n r.0 r.1) rs) (lent : ranges_of R ≡ rs) (here : i < length R) where
+  abbrev pub next_range : Range
+  next_range = get_or R i no_run
+
+  among : i < length rs
+  among = let e = runs_lent rs R lent in omega arith
+
+  ends : get_or rs i (0, 0) ≡ (next_range.first, next_range.last)
+  ends = run_lent rs R i lent here
+
+  pub first_within : next_range.first < 2 ^ n
+  first_within = subst (λ x. x < 2 ^ n) (ap (λ q. q.0) ends) (run_at_proper n rs i proper among).first_fits
+
+  pub last_within : next_range.last < 2 ^ n
+  last_within = subst (λ x. x < 2 ^ n) (ap (λ q. q.1) ends) (run_at_proper n rs i proper among).last_fits
+
+  -- its rows come after those of the runs before it, and are among those of all
+  pub rows_follow : rows_of_runs n (take (i + 1) rs) ≡ rows_of_runs n (take i rs) ++ rows_of_range n next_range.first next_range.last
+  rows_follow = runs_more n rs i among ∙ ap (λ l. rows_of_runs n (take i rs) ++ l) (sym (rows_at_range n rs i next_range.first next_range.last proper among ends))
+
+  pub rows_counted : length (rows_of_runs n (take (i + 1) rs)) ≡ length (rows_of_runs n (take i rs)) + length (rows_of_range n next_range.first next_range.last)
+  rows_counted = ap length rows_follow ∙ length-append (rows_of_runs n (take i rs)) (rows_of_range n next_range.first next_range.last)

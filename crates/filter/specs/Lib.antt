@@ -1,5 +1,6 @@
 pub mod Ledger
 pub mod Placement
+pub mod Writes
 pub mod SlotReports
 pub mod Compared
 pub mod Holds

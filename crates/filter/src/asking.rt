@@ -21,7 +21,8 @@ impl<D: RowDevice> Filter<D> {
         if self.held {
             return Err(Refusal::FilterHeld);
         }
-        self.device.ask(number)
+        let said = self.device.ask(number)?;
+        Ok(said)
     }
 
     // The row in a slot, or nothing.
@@ -30,7 +31,8 @@ impl<D: RowDevice> Filter<D> {
         ensures answer { (b : Ledger) → StandsFor D.RowDevice self.now b → granted_only result ≡ slot_answer b slot }
         ensures in_full { (b : Ledger) → StandsFor D.RowDevice self.now b → result ≡ slot_report b slot }
     {
-        self.device.read(slot)
+        let content = self.device.read(slot)?;
+        Ok(content)
     }
 
     // Both ends of a run of the held numbers, as a pair, or nothing beyond the last.

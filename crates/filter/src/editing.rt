@@ -1,9 +1,11 @@
 // Adding ranges to a filter and dropping them.
-ghost use Rattle.std.specs.Prelude.{◌≡◌, true, is_err};
+ghost use Rattle.std.specs.Prelude.{◌≡◌, true, is_err, length};
+ghost use Rattle.device.specs.KeptBeside.{KeptBeside};
 ghost use Rattle.run_table.specs.declared.edit.Edit.TheVariants.{Add, Drop};
 ghost use Rattle.filter.specs.Ledger.{Ledger, edit_answer, after_edit};
 ghost use Rattle.filter.specs.Holds.{SameHold};
 ghost use Rattle.filter.specs.StandsFor.{StandsFor};
+ghost use Rattle.filter.specs.Writes.{edit_writes};
 
 use super::filter::Filter;
 use super::hold_token::HoldToken;
@@ -19,6 +21,8 @@ impl<D: RowDevice> Filter<D> {
         ensures step { (b : Ledger) → StandsFor D.RowDevice self.old b → (result ≡ edit_answer b token.now.tag (Add range)) × StandsFor D.RowDevice self.new (after_edit b token.now.tag (Add range)) }
         ensures untouched_when_refused { is_err result ≡ true → self.new ≡ self.old }
         ensures hold_stays { SameHold self.old self.new }
+        ensures beside { KeptBeside D.RowDevice self.old.device
+            (edit_writes result (length (D.state self.old.device).slots)) self.new.device }
     {
         self.edit(token, Edit::Add(range))
     }
@@ -28,6 +32,8 @@ impl<D: RowDevice> Filter<D> {
         ensures step { (b : Ledger) → StandsFor D.RowDevice self.old b → (result ≡ edit_answer b token.now.tag (Drop range)) × StandsFor D.RowDevice self.new (after_edit b token.now.tag (Drop range)) }
         ensures untouched_when_refused { is_err result ≡ true → self.new ≡ self.old }
         ensures hold_stays { SameHold self.old self.new }
+        ensures beside { KeptBeside D.RowDevice self.old.device
+            (edit_writes result (length (D.state self.old.device).slots)) self.new.device }
     {
         self.edit(token, Edit::Drop(range))
     }
@@ -38,6 +44,8 @@ impl<D: RowDevice> Filter<D> {
         ensures step { (b : Ledger) → StandsFor D.RowDevice self.old b → (result ≡ edit_answer b token.now.tag edit) × StandsFor D.RowDevice self.new (after_edit b token.now.tag edit) }
         ensures untouched_when_refused { is_err result ≡ true → self.new ≡ self.old }
         ensures hold_stays { SameHold self.old self.new }
+        ensures beside { KeptBeside D.RowDevice self.old.device
+            (edit_writes result (length (D.state self.old.device).slots)) self.new.device }
     {
         if !self.held_by(token) {
             return Err(Refusal::NotHeld);

@@ -1,5 +1,6 @@
 // Holding and releasing a filter.
-ghost use Rattle.std.specs.Prelude.{◌≡◌, true, false, not, ◌&&◌, ◌==◌, is_err, Ok, IfOk};
+ghost use Rattle.std.specs.Prelude.{◌≡◌, true, false, not, ◌&&◌, ◌==◌, [], is_err, Ok, IfOk};
+ghost use Rattle.device.specs.KeptBeside.{KeptBeside};
 ghost use Rattle.filter.specs.Ledger.{Ledger, hold_answer, after_hold, release_answer, after_release};
 ghost use Rattle.filter.specs.StandsFor.{StandsFor};
 ghost use Rattle.filter.specs.Compared.{tag_of, refusal_of, HandedBack};
@@ -17,6 +18,7 @@ impl<D: RowDevice> Filter<D> {
         ensures untouched_when_refused { is_err result ≡ true → self.new ≡ self.old }
         ensures refused_if_held { is_err result ≡ self.old.held }
         ensures token { HoldGiven self.new result }
+        ensures beside { KeptBeside D.RowDevice self.old.device [] self.new.device }
     {
         if self.held {
             return Err(Refusal::FilterHeld);
@@ -34,6 +36,7 @@ impl<D: RowDevice> Filter<D> {
         ensures refused_unless_it_fits { is_err result ≡ not (self.old.held && token.tag == self.old.tag) }
         ensures granted { TokenOf self.old token → result ≡ Ok tt }
         ensures free_when_granted { IfOk result (λ _. self.new.held ≡ false) }
+        ensures beside { KeptBeside D.RowDevice self.old.device [] self.new.device }
     {
         if !self.held_by(&token) {
             return Err(RefusedRelease {

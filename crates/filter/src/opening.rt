@@ -1,10 +1,12 @@
 // Opening a filter, and taking its device back.
 ghost use Rattle.std.specs.Prelude.{◌≡◌, length};
 ghost use Rattle.filter.specs.Ledger.{opened};
-ghost use Rattle.filter.specs.Placement.{emptied};
+ghost use Rattle.device.specs.KeptBeside.{KeptBeside};
 ghost use Rattle.filter.specs.StandsFor.{StandsFor};
+ghost use Rattle.filter.specs.Writes.{all_slots};
 
 use super::filter::Filter;
+use super::placing::empty_from;
 use device::device::RowDevice;
 use run_table::table::RunTable;
 
@@ -12,6 +14,8 @@ impl<D: RowDevice> Filter<D> {
     // A filter over the device, with every slot emptied and the mute off: it holds no numbers.
     pub fn open(device: D, tag: u64) -> Filter<D>
         ensures opened { StandsFor D.RowDevice result (opened (D.RowDevice.state device).width (length (D.RowDevice.state device).slots) tag) }
+        ensures beside { KeptBeside D.RowDevice device (all_slots (length (D.state device).slots))
+            result.device }
     {
         let mut device = device;
         empty_from(&mut device, 0);
@@ -35,14 +39,5 @@ impl<D: RowDevice> Filter<D> {
             tag: _,
         } = self;
         device
-    }
-}
-
-// Leaves nothing in the slots from this one on.
-pub(super) fn empty_from<D: RowDevice>(device: &mut D, from: usize)
-    ensures after { D.RowDevice.state device.new ≡ emptied (D.RowDevice.state device.old) from }
-{
-    for slot in from..device.slot_count() {
-        device.empty(slot).unwrap();
     }
 }
