@@ -4,7 +4,7 @@ use Rattle.std.proofs.ByRecursion.{All-weaker}
 use Rattle.covers.specs.Rivals.{Shortest, Within}
 use Rattle.circle.proofs.Rows.{rows}
 use Rattle.device.specs.declared.device.RowDevice.{Ghosts}
-use Rattle.device.specs.Levels.{Level, Beneath}
+use Rattle.device.specs.Levels.{Carries, Level, Beneath}
 use Rattle.device.specs.States.{DeviceState, some_slot_takes}
 use Rattle.device.specs.SymbolLaws.{rows_in}
 use Rattle.layers.specs.Piles.{Alike, carried_rows}
@@ -50,6 +50,7 @@ module _ {D : Type 0} (d : Ghosts D) (f : Filter D d) (b : Ledger) (s : StandsFo
       let a = level_alike t l (d.lawful f.device) below in
       let w = s.width in
       record {
+        carries = subst (λ n. Carries n l.carrying) w below.carries;
         exact = λ x h. a.taken x (subst (λ n. x < 2 ^ n) (sym w) h) ∙ exact_top x h;
         shortest = λ one.
             subst (λ n. Shortest n (rows_in n l.slots)) w (shortest_there t l a (subst (λ n. Shortest n (rows_in n t.slots)) (sym w) (shortest_top one)));
@@ -77,5 +78,5 @@ kept_unmarked t levels b mark k = record {
   exact = k.exact;
   shortest = k.shortest;
   bounded = k.bounded;
-  beneath = All-weaker (PromiseBeneath (marked b mark)) (PromiseBeneath b) (λ l p. record { exact = p.exact; shortest = p.shortest; bounded = p.bounded }) levels k.beneath;
+  beneath = All-weaker (PromiseBeneath (marked b mark)) (PromiseBeneath b) (λ l p. record { carries = p.carries; exact = p.exact; shortest = p.shortest; bounded = p.bounded }) levels k.beneath;
 }

@@ -1,3 +1,4 @@
 pub mod Told
 pub mod ToldInFull
 pub mod Kept
+pub mod Written

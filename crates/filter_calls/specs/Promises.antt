@@ -2,11 +2,12 @@
 use Rattle.std.specs.Prelude.{◌≡◌, ℕ, ◌^◌, ◌<◌, List, length}
 use Rattle.std.specs.List.{AllByRecursion}
 use Rattle.covers.specs.Rivals.{Shortest, Within}
-use Rattle.device.specs.Levels.{Level}
+use Rattle.device.specs.Levels.{Carrying, Carries, Level}
 use Rattle.device.specs.States.{DeviceState, some_slot_takes}
 use Rattle.device.specs.SymbolLaws.{rows_in}
 use Rattle.device.specs.declared.exchange.Exchange.{Exchange}
 use Rattle.device.specs.Exchanges.{calls_of}
+use Rattle.layers.specs.Layers.{layer_levels, layer_state}
 use Rattle.filter_calls.specs.declared.call.FilterCall.{FilterCall}
 use Rattle.filter.specs.Ledger.{Ledger, opened, ledger_runs, ledger_rows}
 use Rattle.filter.specs.Placement.{placed}
@@ -19,9 +20,11 @@ first_ledger s tag = opened s.width (length s.slots) tag
 abbrev pub last_ledger : DeviceState → ℕ → List (Exchange FilterCall Answer) → Ledger
 last_ledger s tag exchanges = after_calls (first_ledger s tag) (calls_of exchanges)
 
--- at a level beneath the device: the rows take precisely the ledger's numbers, carried there, and both bounds hold
--- against every rival of those rows, with the runs counted before carrying
+-- at a level beneath the device: numbers and rows are carried there and back again lawfully, so that all numbers of the
+-- width are spoken of; the rows take precisely the ledger's numbers, carried there, and both bounds hold against every
+-- rival of those rows, with the runs counted before carrying
 pub record PromiseBeneath (b : Ledger) (l : Level) : Type 0 where
+  pub carries : Carries b.width l.carrying
   pub exact : (x : ℕ) → x < 2 ^ b.width → some_slot_takes l.slots (l.carrying.number_there x) ≡ b.numbers x
   pub shortest : length (ledger_runs b) ≡ 1 → Shortest b.width (rows_in b.width l.slots)
   pub bounded : Within (length (ledger_runs b)) b.width (rows_in b.width l.slots)
@@ -48,3 +51,14 @@ pub record Promise (s : DeviceState) (tag : ℕ) (before after : List (Exchange 
   -- the exchanges themselves, with the row of each slot that was reported
   pub in_full : after ≡ answered_in_full (first_ledger s tag) (calls_of before)
   pub kept : PromiseKept t levels (last_ledger s tag before)
+
+-- The whole promise of a filter over a layer, by the map's carrying and by the device below it, before and after: that of the
+-- layer which they make, at whose first level the device itself lies.
+abbrev pub PromiseOverLayer : (ℕ → Carrying) → DeviceState → ℕ → List (Exchange FilterCall Answer) → List (Exchange FilterCall Answer) → DeviceState → List Level → Type 0
+PromiseOverLayer carrying s tag before after t levels =
+    Promise (layer_state carrying s) tag before after (layer_state carrying t) (layer_levels carrying t levels)
+
+-- the same over a layer on a layer on the device
+abbrev pub PromiseOverLayers : (ℕ → Carrying) → (ℕ → Carrying) → DeviceState → ℕ → List (Exchange FilterCall Answer) → List (Exchange FilterCall Answer) → DeviceState → List Level → Type 0
+PromiseOverLayers outer inner s tag before after t levels =
+    PromiseOverLayer outer (layer_state inner s) tag before after (layer_state inner t) (layer_levels inner t levels)

@@ -1,5 +1,6 @@
 -- What the ledger answers to a list of calls.
-use Rattle.std.specs.Prelude.{ℕ, Bool, false, ◌==◌, List, map, Some, None, Option, Ok, Err, Result}
+use Rattle.std.specs.Prelude.{ℕ, Bool, false, ◌==◌, List, [], ◌++◌, map, Some, None, Option, Ok, Err, Result}
+use Rattle.std.specs.List.{flat_map}
 use Rattle.rows.specs.declared.refusal.Refusal.{Refusal}
 use Rattle.filter_calls.specs.declared.call.FilterCall.{FilterCall}
 use Rattle.filter_calls.specs.declared.call.FilterCall.TheVariants.{Hold, Edit, Release, Ask, ReportSlot, ReportRun}
@@ -11,6 +12,7 @@ use Rattle.device.specs.Exchanges.{after_all, answered_all, calls_of}
 use Rattle.filter.specs.declared.hold_token.HoldToken.{HoldToken}
 use Rattle.filter.specs.Ledger.{Ledger, hold_answer, after_hold, edit_answer, after_edit, release_answer, after_release, ask_answer, slot_answer, run_answer}
 use Rattle.filter.specs.SlotReports.{slot_report}
+use Rattle.filter.specs.Writes.{all_slots}
 
 -- the answer to a call, or why it was refused
 abbrev pub Answer : Type 0
@@ -91,3 +93,22 @@ answered b exchanges = answered_all ledger_answer after_call b (calls_of exchang
 -- a list of calls, each with its answer in full beside it
 abbrev pub answered_in_full : Ledger → List FilterCall → List (Exchange FilterCall Answer)
 answered_in_full = answered_all full_answer after_call
+
+-- the slots of a device with so many that a call has put or emptied: where an edit was granted, and so a row count told,
+-- each slot once; else none
+abbrev pub answer_writes : ℕ → Answer → List ℕ
+answer_writes count (Ok (Token tag)) = []
+answer_writes count (Ok (Rows rows)) = all_slots count
+answer_writes count (Ok Released) = []
+answer_writes count (Ok (Says said)) = []
+answer_writes count (Ok (Slot row)) = []
+answer_writes count (Ok (Run run)) = []
+answer_writes count (Err e) = []
+
+-- those that answered calls have written, in order
+abbrev pub answered_writes : ℕ → List (Exchange FilterCall Answer) → List ℕ
+answered_writes count exchanges = flat_map (λ e. answer_writes count e.answer) exchanges
+
+-- and those of a replay: the opening writes each slot once, and then the calls follow
+abbrev pub replay_writes : ℕ → List (Exchange FilterCall Answer) → List ℕ
+replay_writes count exchanges = all_slots count ++ answered_writes count exchanges

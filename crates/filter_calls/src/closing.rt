@@ -1,6 +1,8 @@
 // Lists of calls, played on a filter that is closed after them.
-ghost use Rattle.std.specs.Prelude.{◌≡◌, false};
+ghost use Rattle.std.specs.Prelude.{◌≡◌, false, length};
+ghost use Rattle.device.specs.KeptBeside.{KeptBeside};
 ghost use Rattle.filter_calls.specs.Promises.{Promise};
+ghost use Rattle.filter_calls.specs.Replays.{replay_writes};
 
 use super::call::FilterExchange;
 use super::replay::play;
@@ -10,6 +12,8 @@ use device::device::RowDevice;
 pub fn replay_and_close<D: RowDevice>(device: D, tag: u64, exchanges: &mut [FilterExchange]) -> D
     ensures promise { Promise (D.RowDevice.state device) tag exchanges.old exchanges.new (D.RowDevice.state result) (D.RowDevice.levels result) }
     ensures mute_off { (D.RowDevice.state result).muted ≡ false }
+    ensures beside { KeptBeside D.RowDevice device
+        (replay_writes (length (D.state device).slots) exchanges.new) result }
 {
     play(device, tag, exchanges).close()
 }

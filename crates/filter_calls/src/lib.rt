@@ -5,5 +5,7 @@ pub mod alike;
 pub mod call;
 pub mod closing;
 mod foreign;
+pub mod layered;
+pub mod lent;
 mod player;
 pub mod replay;

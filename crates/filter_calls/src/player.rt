@@ -1,5 +1,5 @@
 // What makes calls on a filter.
-ghost use Rattle.std.specs.Prelude.{◌≡◌, true, false, Err, MatchOption};
+ghost use Rattle.std.specs.Prelude.{◌≡◌, [], length, true, false, Err, MatchOption};
 ghost use Rattle.std.proofs.Props.{props};
 
 use super::call::{FilterAnswer, FilterCall, RefusedCall};
@@ -21,13 +21,18 @@ pub(super) struct Player<D: RowDevice> {
 impl<D: RowDevice> Player<D> {
     ghost use Rattle.filter.specs.Ledger.{Ledger, hold_answer, after_hold, edit_answer, after_edit, release_answer, after_release};
     ghost use Rattle.filter.specs.StandsFor.{StandsFor};
+    ghost use Rattle.filter.specs.Writes.{edit_writes};
+    ghost use Rattle.device.specs.KeptBeside.{KeptBeside};
     ghost use Rattle.filter_calls.specs.Promises.{PromiseKept};
-    ghost use Rattle.filter_calls.specs.Replays.{after_call, compared, full_answer, ledger_answer, released_by, token_has_tag};
+    ghost use Rattle.filter_calls.specs.Replays.{after_call, answer_writes, compared, full_answer, ledger_answer, released_by, token_has_tag};
 
     // Makes one call.
     pub(super) fn perform(&mut self, call: FilterCall) -> Result<FilterAnswer, RefusedCall>
         ensures step { (b : Ledger) → StandsFor D.RowDevice self.old.filter b → (compared result ≡ ledger_answer b call) × StandsFor D.RowDevice self.new.filter (after_call b call) }
         ensures in_full { (b : Ledger) → StandsFor D.RowDevice self.old.filter b → result ≡ full_answer b call }
+        ensures beside { KeptBeside D.RowDevice self.old.filter.device
+            (answer_writes (length (D.state self.old.filter.device).slots) result)
+            self.new.filter.device }
     {
         match call {
             FilterCall::Hold => {
@@ -57,6 +62,7 @@ impl<D: RowDevice> Player<D> {
     // Holds the filter, keeps the token, and tells its tag.
     fn hold(&mut self) -> Result<u64, Refusal>
         ensures step { (b : Ledger) → StandsFor D.RowDevice self.old.filter b → (result ≡ hold_answer b) × StandsFor D.RowDevice self.new.filter (after_hold b) }
+        ensures beside { KeptBeside D.RowDevice self.old.filter.device [] self.new.filter.device }
     {
         let token = self.filter.hold()?;
         let tag = token.tag();
@@ -70,6 +76,9 @@ impl<D: RowDevice> Player<D> {
     // Shows a token of this tag for an edit: the one at hand if it has the tag, else that of another filter.
     fn edit(&mut self, tag: u64, edit: Edit) -> Result<usize, Refusal>
         ensures step { (b : Ledger) → StandsFor D.RowDevice self.old.filter b → (result ≡ edit_answer b tag edit) × StandsFor D.RowDevice self.new.filter (after_edit b tag edit) }
+        ensures beside { KeptBeside D.RowDevice self.old.filter.device
+            (edit_writes result (length (D.state self.old.filter.device).slots))
+            self.new.filter.device }
     {
         if let Some(token) = self.token.as_ref().filter(|token| token.tag() == tag) {
             return self.filter.edit(token, edit);
@@ -83,6 +92,7 @@ impl<D: RowDevice> Player<D> {
     // Shows a token of this tag for a release: the one at hand if it has the tag, else that of another filter.
     fn release(&mut self, tag: u64) -> Result<(), RefusedCall>
         ensures step { (b : Ledger) → StandsFor D.RowDevice self.old.filter b → (result ≡ released_by tag (release_answer b tag)) × StandsFor D.RowDevice self.new.filter (after_release b tag) }
+        ensures beside { KeptBeside D.RowDevice self.old.filter.device [] self.new.filter.device }
     {
         match self.token.take_if(|token| token.tag() == tag) {
             Some(token) => {
@@ -97,6 +107,7 @@ impl<D: RowDevice> Player<D> {
     fn release_with_another(&mut self, tag: u64) -> RefusedCall
         requires not_at_hand { token_has_tag self.old.token tag ≡ false }
         ensures step { (b : Ledger) → StandsFor D.RowDevice self.old.filter b → (Err result ≡ released_by tag (release_answer b tag)) × StandsFor D.RowDevice self.new.filter (after_release b tag) }
+        ensures beside { KeptBeside D.RowDevice self.old.filter.device [] self.new.filter.device }
     {
         let HeldFilter {
             filter: other,
@@ -119,6 +130,7 @@ impl<D: RowDevice> Player<D> {
     pub(super) fn close(self) -> D
         ensures kept { (b : Ledger) → StandsFor D.RowDevice self.filter b → PromiseKept (D.RowDevice.state result) (D.RowDevice.levels result) b }
         ensures mute_off { (D.RowDevice.state result).muted ≡ false }
+        ensures beside { KeptBeside D.RowDevice self.filter.device [] result }
     {
         let Player { filter, token } = self;
         let mut filter = filter;

@@ -1,6 +1,9 @@
 // Lists of calls, played on a filter over any device.
+ghost use Rattle.std.specs.Prelude.{length};
+ghost use Rattle.device.specs.KeptBeside.{KeptBeside};
 ghost use Rattle.filter.specs.StandsFor.{AtHand, StandsFor};
 ghost use Rattle.filter_calls.specs.Promises.{Promise, last_ledger};
+ghost use Rattle.filter_calls.specs.Replays.{replay_writes};
 
 use super::call::FilterExchange;
 use super::player::Player;
@@ -21,6 +24,8 @@ pub fn replay<D: RowDevice>(device: D, tag: u64, exchanges: &mut [FilterExchange
     ensures promise { Promise (D.RowDevice.state device) tag exchanges.old exchanges.new (D.RowDevice.state result.filter.device) (D.RowDevice.levels result.filter.device) }
     ensures stands { StandsFor D.RowDevice result.filter (last_ledger (D.RowDevice.state device) tag exchanges.old) }
     ensures token { AtHand (last_ledger (D.RowDevice.state device) tag exchanges.old) result.token }
+    ensures beside { KeptBeside D.RowDevice device
+        (replay_writes (length (D.state device).slots) exchanges.new) result.filter.device }
 {
     let Player { filter, token } = play(device, tag, exchanges);
     Replayed { filter, token }
@@ -31,6 +36,8 @@ pub(super) fn play<D: RowDevice>(device: D, tag: u64, exchanges: &mut [FilterExc
     ensures promise { Promise (D.RowDevice.state device) tag exchanges.old exchanges.new (D.RowDevice.state result.filter.device) (D.RowDevice.levels result.filter.device) }
     ensures stands { StandsFor D.RowDevice result.filter (last_ledger (D.RowDevice.state device) tag exchanges.old) }
     ensures token { AtHand (last_ledger (D.RowDevice.state device) tag exchanges.old) result.token }
+    ensures beside { KeptBeside D.RowDevice device
+        (replay_writes (length (D.state device).slots) exchanges.new) result.filter.device }
 {
     let mut player = Player {
         filter: Filter::open(device, tag),

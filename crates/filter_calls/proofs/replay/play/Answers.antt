@@ -1,15 +1,49 @@
-use Rattle.std.proofs.Common.{◌≤◌, List, ◌++◌, length, take, sym, ap, ◌∙◌, subst, append-nil, arith, take_all}
+use Rattle.std.proofs.Common.{ℕ, ◌<◌, ◌≤◌, List, ◌++◌, length, get_or, take, refl, sym, ap, ◌∙◌, subst, append-nil, arith, take_all}
+use Rattle.std.proofs.lemmas.Grind.{common_steps}
 use Rattle.std.proofs.lemmas.List.{drop_all}
 use Rattle.device.specs.declared.exchange.Exchange.{Exchange}
 use Rattle.device.specs.Exchanges.{calls_of}
 use Rattle.filter_calls.specs.declared.call.FilterCall.{FilterCall}
 use Rattle.filter_calls.specs.Promises.{first_ledger, last_ledger}
-use Rattle.filter_calls.specs.Replays.{Answer, answered_in_full, after_calls, as_compared}
+use Rattle.filter_calls.specs.Replays.{Answer, after_call, answer_writes, answered_in_full, after_calls, as_compared, answered_writes, full_answer}
+use Rattle.device.specs.KeptBeside.{KeptBeside}
+use Rattle.device.specs.KeptBesideLaws.{kept_on}
+use Rattle.device.proofs.Plays.{after_more_exchanges, answered_more}
 use Rattle.filter.specs.StandsFor.{StandsFor}
+use Rattle.filter.specs.Writes.{all_slots}
+use Rattle.filter.proofs.Edited.{slots_known}
+use Rattle.filter_calls.proofs.Written.{kept_call, size_stays}
 use Rattle.filter_calls.proofs.Kept.{promise_kept}
 use Rattle.filter_calls.proofs.Told.{at_hand}
 use Rattle.filter_calls.proofs.ToldInFull.{answered_compared}
 use Rattle.filter_calls.proofs.replay.play.Goals as goal
+
+pub loop-exchange-preserved : goal.loop-exchange-preserved
+loop-exchange-preserved g c = λ first s.
+    let d = g.D.RowDevice in
+    let start = c.open.result.device in
+    let f = c.loop-exchange.player.filter in
+    let es = c.loop-exchange.exchanges in
+    let was = c.args.exchanges.now in
+    let i = c.loop-exchange.exchange-index in
+    let item = c.exchange-item.result in
+    let p = c.perform-exchange in
+    let inv = c.loop-exchange.invariant first s in
+    let b = inv.0 in
+    let call = (get_or es i item).call in
+    let h : i < length es = omega arith in
+    let next = after_call b call in
+    let step = p.ensures.step b inv.1 in
+    let count = slots_known d f b inv.1 ∙ inv.5 in
+    let written = subst (λ (k : ℕ). KeptBeside d f.device (answer_writes k p.result) p.new.self.filter.device) count p.ensures.beside in (
+      next,
+      step.1,
+      grind (arith, common_steps),
+      answered_more full_answer after_call b next es was i item inv.2 h c.exchange-item.is refl p.result (p.ensures.in_full b inv.1) ∙ inv.3,
+      after_more_exchanges full_answer after_call b next es was i item inv.2 h c.exchange-item.is refl ∙ inv.4,
+      (size_stays b call).slots ∙ inv.5,
+      kept_call d start f.device p.new.self.filter.device first.slots es i (record { call = call; answer = p.result }) h inv.6 written,
+    )
 
 pub returns : goal.returns
 returns g c =
@@ -33,5 +67,8 @@ returns g c =
         kept = promise_kept d f _ stands;
       };
       stands = stands;
+      beside =
+          kept_on d c.args.device c.open.result.device f.device (all_slots (length (d.state c.args.device).slots)) (answered_writes (length (d.state c.args.device).slots) es) c.open.ensures.beside
+          (subst (λ (l : List (Exchange FilterCall Answer)). KeptBeside d c.open.result.device (answered_writes (length (d.state c.args.device).slots) l) f.device) (take_all i es h) inv.6);
       token = at_hand f.held f.tag (last_ledger (d.state c.args.device) c.args.tag was) c.loop-exchange.player.token stands.held stands.tag c.loop-exchange.player.at_hand;
     }

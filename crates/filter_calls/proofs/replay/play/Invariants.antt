@@ -1,7 +1,8 @@
 use Rattle.std.proofs.Common.{◌≡◌, ◌++◌, take, drop}
 use Rattle.filter.specs.Ledger.{Ledger}
 use Rattle.device.specs.Exchanges.{calls_of}
-use Rattle.filter_calls.specs.Replays.{answered_in_full, after_calls}
+use Rattle.device.specs.KeptBeside.{KeptBeside}
+use Rattle.filter_calls.specs.Replays.{answered_in_full, after_calls, answered_writes}
 use Rattle.filter.specs.StandsFor.{StandsFor}
 use Rattle.filter_calls.proofs.replay.play.Given as goal
 
@@ -15,3 +16,5 @@ invariant-loop-exchange g l =
     × (drop l.exchange-index l.exchanges ≡ left)
     × (take l.exchange-index l.exchanges ++ answered_in_full b (calls_of left) ≡ answered_in_full first (calls_of l.initial.exchanges))
     × (after_calls b (calls_of left) ≡ after_calls first (calls_of l.initial.exchanges))
+    × (b.slots ≡ first.slots)
+    × KeptBeside g.D.RowDevice l.initial.player.filter.device (answered_writes first.slots (take l.exchange-index l.exchanges)) l.player.filter.device

@@ -1,4 +1,6 @@
-use Rattle.std.proofs.Common.{false, sym, ap, ◌∙◌, subst}
+use Rattle.device.specs.KeptBeside.{KeptBeside}
+use Rattle.device.specs.KeptBesideLaws.{kept_at_rest}
+use Rattle.std.proofs.Common.{false, [], sym, ap, ◌∙◌, subst}
 use Rattle.std.proofs.Math.Logic.{∥∥₁_elim}
 use Rattle.std.proofs.Props.{props}
 use Rattle.filter.specs.Compared.{refusal_of}
@@ -27,7 +29,12 @@ returns g c =
           let unmarked : StandsFor d own (marked b false) = record { width = s.width; muted = s.muted ∙ sym s.held ∙ is_free; held = is_free; tag = s.tag; runs = s.runs; fit = s.fit; slots = s.slots } in
           subst (λ f. StandsFor d f (marked b false)) (sym w.filter-is) unmarked
     ] in
+    let beside : KeptBeside d own.device [] last.device = elim c.match-token.branch [
+      | in-Some w ↦ subst (λ f. KeptBeside d own.device [] f.device) (sym w.filter-is) w.release.ensures.beside
+      | in_default w ↦ subst (λ f. KeptBeside d own.device [] f.device) (sym w.filter-is) (kept_at_rest d own.device)
+    ] in
     record {
       kept = λ b s. kept_unmarked _ _ b false (subst (λ v. PromiseKept (d.state v) (d.levels v) (marked b false)) (sym device) (promise_kept d last (marked b false) (released b s)));
       mute_off = ap (λ v. (d.state v).muted) device ∙ ∥∥₁_elim own.stands (Prim.hlevel props) (λ p. (released p.0 p.1).muted);
+      beside = subst (KeptBeside d own.device []) (sym device) beside;
     }
