@@ -6,6 +6,7 @@ use Rattle.run_table.specs.declared.edit.Edit.TheVariants as edits
 use Rattle.filter_calls.specs.declared.call.FilterCall.{FilterCall}
 use Rattle.filter_calls.specs.declared.call.FilterCall.TheVariants as calls
 use Rattle.filter.specs.Ledger.{Ledger, after_hold, edit_answer, ask_answer}
+use Rattle.filter.specs.Writes.{all_slots}
 use Rattle.filter_calls.specs.Replays.{after_calls}
 use Rattle.lines.specs.declared.command.Command.{Command}
 use Rattle.lines.specs.declared.command.Command.TheVariants.{Add, Drop, Ask}
@@ -44,3 +45,9 @@ reply_to b None = Err MalformedLine
 -- the ledger after the line
 abbrev pub after_line : Ledger → Option Command → Ledger
 after_line b read = after_calls b (calls_for b.tag read)
+
+-- the slots that a line has put or emptied, of so many: each once where a row count was replied, else none
+abbrev pub reply_writes : ℕ → Result Reply Refusal → List ℕ
+reply_writes count (Ok (Rows rows)) = all_slots count
+reply_writes count (Ok (Says said)) = []
+reply_writes count (Err e) = []

@@ -24,13 +24,19 @@ pub struct Console<D: RowDevice> {
 impl<D: RowDevice> Console<D> {
     ghost use Rattle.std.specs.Prelude.{length, IfOk, string_bytes};
     ghost use Rattle.std.specs.List.{flat_map};
+    ghost use Rattle.device.specs.KeptBeside.{KeptBeside};
     ghost use Rattle.filter.specs.Ledger.{Ledger, opened, edit_answer, after_hold, after_edit, after_release, ledger_rows};
+    ghost use Rattle.filter.specs.Writes.{all_slots, edit_writes};
     ghost use Rattle.console.specs.Closing.{rows_bytes, slot_bytes};
+    ghost use Rattle.console.specs.Replies.{reply_writes};
     ghost use Rattle.console.specs.StandsFor.{ConsoleStands, LineTaken};
 
     // A console over the device, which holds no numbers.
     pub fn open(device: D) -> Console<D>
         ensures opened { ConsoleStands D.RowDevice result (opened (D.RowDevice.state device).width (length (D.RowDevice.state device).slots) 0) }
+        ensures beside { KeptBeside D.RowDevice device
+            (all_slots (length (D.state device).slots))
+            result.filter.device }
     {
         Console {
             filter: Filter::open(device, CONSOLE_TAG),
@@ -40,22 +46,38 @@ impl<D: RowDevice> Console<D> {
     // Obeys a line, without its newline, and replies to it or refuses it.
     pub fn answer(&mut self, line: &[u8]) -> Result<Reply, Refusal>
         ensures step { (b : Ledger) → ConsoleStands D.RowDevice self.old b → LineTaken D.RowDevice b line.now result self.new }
+        ensures beside { KeptBeside D.RowDevice self.old.filter.device
+            (reply_writes (length (D.state self.old.filter.device).slots) result)
+            self.new.filter.device }
     {
         match parse_command(line)? {
-            Command::Add(range) => self.edit(Edit::Add(range)).map(Reply::Rows),
-            Command::Drop(range) => self.edit(Edit::Drop(range)).map(Reply::Rows),
-            Command::Ask { number } => self.filter.ask(number).map(Reply::Says),
+            Command::Add(range) => {
+                let rows = self.edit(Edit::Add(range))?;
+                Ok(Reply::Rows(rows))
+            }
+            Command::Drop(range) => {
+                let rows = self.edit(Edit::Drop(range))?;
+                Ok(Reply::Rows(rows))
+            }
+            Command::Ask { number } => {
+                let said = self.filter.ask(number)?;
+                Ok(Reply::Says(said))
+            }
         }
     }
 
     // One edit within a hold of its own.
     fn edit(&mut self, edit: Edit) -> Result<usize, Refusal>
         ensures step { (b : Ledger) → ConsoleStands D.RowDevice self.old b → (result ≡ edit_answer (after_hold b) b.tag edit) × ConsoleStands D.RowDevice self.new (after_release (after_edit (after_hold b) b.tag edit) b.tag) }
+        ensures beside { KeptBeside D.RowDevice self.old.filter.device
+            (edit_writes result (length (D.state self.old.filter.device).slots))
+            self.new.filter.device }
     {
         let token = self.filter.hold()?;
         let answer = self.filter.edit(&token, edit);
         self.filter.release(token).unwrap();
-        answer
+        let rows = answer?;
+        Ok(rows)
     }
 
     // The lines of the rows in the slots, in their order.

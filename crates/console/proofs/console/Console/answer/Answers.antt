@@ -1,44 +1,27 @@
-use Rattle.std.proofs.Common.{◌≡◌, Some, ap, ◌∙◌, subst, rules}
-use Rattle.lines.specs.declared.command.Command.TheVariants.{Add, Drop, Ask}
-use Rattle.lines.specs.declared.reply.Reply.TheVariants.{Rows, Says}
-use Rattle.lines.specs.Lines.{Means}
-use Rattle.console.specs.Replies.{replied}
+use Rattle.std.proofs.Common.{rules}
+use Rattle.console.proofs.Obeyed.{added, dropped, asked}
 use Rattle.console.proofs.console.Console.answer.Goals as goal
 
-pub returns-in-Add : goal.returns-in-Add
-returns-in-Add g c = record {
-  step = λ b s.
-      let done = c.edit.ensures.step b s in
-      let mapped : c.map.result ≡ replied Rows c.edit.result = search rules in
-      record {
-        read = Some (Add c.in-Add.range);
-        reads = subst (Means c.args.line.now) c.in-Add.is c.in_ok-range.ensures.only;
-        replied = mapped ∙ ap (replied Rows) done.0;
-        stands = done.1;
-      };
-}
+pub returns-in_err-rows-in-Add-clause-step : goal.returns-in_err-rows-in-Add-clause-step
+returns-in_err-rows-in-Add-clause-step g c =
+    added g.D.RowDevice c.args.self.now _ _ c.in_ok-range.ensures.only _ c.in-Add.range c.edit.result _ c.in-Add.is (search rules) c.edit.ensures.step
 
-pub returns-in-Drop : goal.returns-in-Drop
-returns-in-Drop g c = record {
-  step = λ b s.
-      let done = c.edit-in-Drop.ensures.step b s in
-      let mapped : c.map-in-Drop.result ≡ replied Rows c.edit-in-Drop.result = search rules in
-      record {
-        read = Some (Drop c.in-Drop.range);
-        reads = subst (Means c.args.line.now) c.in-Drop.is c.in_ok-range.ensures.only;
-        replied = mapped ∙ ap (replied Rows) done.0;
-        stands = done.1;
-      };
-}
+pub returns-in_ok-rows-in-Add-clause-step : goal.returns-in_ok-rows-in-Add-clause-step
+returns-in_ok-rows-in-Add-clause-step g c =
+    added g.D.RowDevice c.args.self.now _ _ c.in_ok-range.ensures.only _ c.in-Add.range c.edit.result _ c.in-Add.is (search rules) c.edit.ensures.step
 
-pub returns-in-Ask : goal.returns-in-Ask
-returns-in-Ask g c = record {
-  step = λ b s.
-      let mapped : c.map-in-Ask.result ≡ replied Says c.ask.result = search rules in
-      record {
-        read = Some (Ask c.in-Ask.number);
-        reads = subst (Means c.args.line.now) c.in-Ask.is c.in_ok-range.ensures.only;
-        replied = mapped ∙ ap (replied Says) (c.ask.ensures.answer b s);
-        stands = s;
-      };
-}
+pub returns-in_err-rows-in-Drop-clause-step : goal.returns-in_err-rows-in-Drop-clause-step
+returns-in_err-rows-in-Drop-clause-step g c =
+    dropped g.D.RowDevice c.args.self.now _ _ c.in_ok-range.ensures.only _ c.in-Drop.range c.edit-in-Drop.result _ c.in-Drop.is (search rules) c.edit-in-Drop.ensures.step
+
+pub returns-in_ok-rows-in-Drop-clause-step : goal.returns-in_ok-rows-in-Drop-clause-step
+returns-in_ok-rows-in-Drop-clause-step g c =
+    dropped g.D.RowDevice c.args.self.now _ _ c.in_ok-range.ensures.only _ c.in-Drop.range c.edit-in-Drop.result _ c.in-Drop.is (search rules) c.edit-in-Drop.ensures.step
+
+pub returns-in_err-said-in-Ask-clause-step : goal.returns-in_err-said-in-Ask-clause-step
+returns-in_err-said-in-Ask-clause-step g c =
+    asked g.D.RowDevice c.args.self.now _ _ c.in_ok-range.ensures.only _ c.in-Ask.number c.ask.result c.in-Ask.is (search rules) c.ask.ensures.answer
+
+pub returns-in_ok-said-in-Ask-clause-step : goal.returns-in_ok-said-in-Ask-clause-step
+returns-in_ok-said-in-Ask-clause-step g c =
+    asked g.D.RowDevice c.args.self.now _ _ c.in_ok-range.ensures.only _ c.in-Ask.number c.ask.result c.in-Ask.is (search rules) c.ask.ensures.answer
