@@ -122,11 +122,31 @@ def mixture():
     yield "pile, at the bottom: " + carried(slots, lambda row: flipped(row, "0001")[::-1])
 
 
+def words(row):
+    """The record of a slot, word by word: a 1 of the care mask where the row has no dash."""
+    if row == "empty":
+        return "empty, value 0, care 0"
+    value = int(row.replace("-", "0"), 2)
+    care = int("".join("0" if s == "-" else "1" for s in row), 2)
+    return f"filled, value {value}, care {care}"
+
+
+def lent_records():
+    yield f"122 marked records at width {WIDTH}, lent to a filter over a flip of 0001 over a turn over a slot table"
+    ledger = Ledger(120)
+    for call in [("hold",), ("add", 1, 3, TAG), ("add", 8, 11, TAG)]:
+        yield "%s: %s" % said(ledger, call)
+    below = [row if row == "empty" else flipped(row, "0001")[::-1] for row in ledger.placed()]
+    records = [words(row) for row in below] + ["filled, value 5, care 7"] * 2
+    for index in (0, 1, 2, 3, 119, 120, 121):
+        yield f"record {index}: {records[index]}"
+
+
 def main():
     stored = os.path.join(os.path.dirname(os.path.abspath(__file__)), "..", "crates", "filter_trial", "stdout")
     with open(stored, encoding="utf-8") as file:
         text = file.read()
-    for account in (two_runs(), mixture()):
+    for account in (two_runs(), mixture(), lent_records()):
         expected = "\n".join(account) + "\n"
         print(expected, end="")
         assert expected in text, "crates/filter_trial/stdout has another account"

@@ -4,6 +4,7 @@ use console::session::Session;
 use covers::symbol::Symbol;
 use device::call::{DeviceAnswer, DeviceCall, DeviceExchange};
 use device::column_table::ColumnTable;
+use device::lent_device::LentDevice;
 use device::slot_record::SlotRecord;
 use device::slot_table::SlotTable;
 use filter::filter::Filter;
@@ -56,11 +57,15 @@ fn of_rows() -> [(&'static str, usize); 8] {
     ]
 }
 
-fn of_devices() -> [(&'static str, usize); 9] {
+fn of_devices() -> [(&'static str, usize); 10] {
     [
         ("SlotRecord, a slot in memory", size_of::<SlotRecord>()),
         ("SlotTable, without its records", size_of::<SlotTable>()),
         ("ColumnTable, with all its slots", size_of::<ColumnTable>()),
+        (
+            "LentDevice, of any device",
+            size_of::<LentDevice<ColumnTable>>(),
+        ),
         ("DeviceCall", size_of::<DeviceCall>()),
         ("DeviceAnswer", size_of::<DeviceAnswer>()),
         ("DeviceExchange", size_of::<DeviceExchange>()),

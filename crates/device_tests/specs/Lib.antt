@@ -1,1 +1,3 @@
 pub mod OneSlots
+pub mod Counts
+pub mod CountLaws

@@ -1,5 +1,5 @@
 // A device of one slot, written from outside the crate of the interface.
-ghost use Rattle.std.specs.Prelude.{◌^◌, ◌<◌, IfSome};
+ghost use Rattle.std.specs.Prelude.{◌^◌, ◌<◌, [], IfSome};
 ghost use Rattle.std.proofs.Props.{props};
 ghost use Rattle.rows.specs.Widths.{places_of};
 
@@ -34,7 +34,16 @@ impl RowDevice for OneSlot {
 
     ghost lawful = { λ d. one_slot_lawful d.width d.row d.muted d.fits };
 
+    ghost levels = { λ _. [] };
+
     ghost beneath = { λ _. tt };
+
+    // nothing lies beside its meaning
+    ghost keeps = { λ _ _ _. Unit {0} };
+
+    ghost keeps_at_rest = { λ _. tt };
+
+    ghost keeps_on = { λ _ _ _ _ _ _ _. tt };
 
     fn put(&mut self, slot: usize, row: Row) -> Result<(), Refusal> {
         check_slot(slot, 1)?;

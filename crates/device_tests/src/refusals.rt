@@ -14,7 +14,7 @@ use std::process::Abort;
 use std::test::Fail;
 
 // At the slot of this number and at slot 120 nothing can be put, emptied or read.
-fn refuses<D: RowDevice>(rt: &impl Abort, device: &mut D, count: usize) {
+pub(super) fn refuses<D: RowDevice>(rt: &impl Abort, device: &mut D, count: usize) {
     assert_eq!(rt; device.slot_count(), count);
     let wide = Row::new(0, 0b10000);
     for slot in [count, 120] {
@@ -31,7 +31,7 @@ fn refuses<D: RowDevice>(rt: &impl Abort, device: &mut D, count: usize) {
 }
 
 // The last slot holds what is put there.
-fn holds_at_the_end<D: RowDevice>(rt: &impl Abort, device: &mut D, slot: usize) {
+pub(super) fn holds_at_the_end<D: RowDevice>(rt: &impl Abort, device: &mut D, slot: usize) {
     let row = Row::new(0b1001, 0b1101);
     assert_eq!(rt; device.put(slot, row), Ok(()));
     assert_eq!(rt; device.read(slot), Ok(Some(row)));

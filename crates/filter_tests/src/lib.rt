@@ -8,6 +8,8 @@ mod closing;
 #[cfg(test)]
 mod edits;
 #[cfg(test)]
+mod layered;
+#[cfg(test)]
 mod piles;
 #[cfg(test)]
 mod tokens;

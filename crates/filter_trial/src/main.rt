@@ -8,5 +8,6 @@ use std::io;
 
 fn main(rt: HostRuntime) -> io::Result<()> {
     replays::two_runs(&rt)?;
-    replays::mixture(&rt)
+    replays::mixture(&rt)?;
+    replays::lent_records(&rt)
 }

@@ -1,11 +1,12 @@
 // Calls replayed on filters over several devices: the answers, and what the slots hold afterwards.
-use super::talk::{ShownAnswers, ShownCall};
+use super::talk::{ShownAnswers, ShownCall, ShownRecord};
 use device::column_table::ColumnTable;
 use device::slot_record::SlotRecord;
 use device::slot_table::SlotTable;
 use filter_calls::alike::answer_alike;
 use filter_calls::call::{FilterAnswer, FilterCall, FilterExchange};
-use filter_calls::closing::replay_and_close;
+use filter_calls::layered::replay_over_layers;
+use filter_calls::lent::replay_on_records;
 use filter_calls::replay::{Replayed, replay};
 use layers::flip::Flip;
 use layers::layer::Layer;
@@ -88,15 +89,15 @@ pub(super) fn mixture(rt: &impl Print) -> io::Result<()> {
     let columns = ColumnTable::new(width, 4);
     let (slots, columns) = answer_alike(slots, columns, TAG, &mut over_slots, &mut over_columns);
     let table = ColumnTable::new(width, 4);
-    let pile = Layer::new(Flip { mask: 0b0001 }, Layer::new(Turn, table));
-    let pile = replay_and_close(pile, TAG, &mut over_pile);
+    let flip = Flip { mask: 0b0001 };
+    let (flip, turn, table) = replay_over_layers(flip, Turn, table, TAG, &mut over_pile);
     for ((a, b), c) in over_slots.iter().zip(&over_columns).zip(&over_pile) {
         let answers = &[a.answer, b.answer, c.answer];
         println!(rt; "{}:{}", ShownCall(a.call), ShownAnswers { width, answers })?;
     }
     println!(rt; "slot table:{}", ShownSlots { device: &slots })?;
     println!(rt; "column table:{}", ShownSlots { device: &columns })?;
-    print_levels(rt, pile)
+    print_levels(rt, Layer::new(flip, Layer::new(turn, table)))
 }
 
 // What the slots hold on top of the pile, below the flip and at the bottom: the pile is taken apart, so no `Display` can.
@@ -106,4 +107,34 @@ fn print_levels(rt: &impl Print, pile: Layer<Flip, Layer<Turn, ColumnTable>>) ->
     println!(rt; "pile, below the flip:{}", ShownSlots { device: &turn })?;
     let (_, table) = turn.into_parts();
     println!(rt; "pile, at the bottom:{}", ShownSlots { device: &table })
+}
+
+// Records lent to a table beneath two layers, and what lies in them when filter, layers and table have ended.
+pub(super) fn lent_records(rt: &impl Print) -> io::Result<()> {
+    println!(rt;
+        "122 marked records at width 4, lent to a filter over a flip of 0001 over a turn over a slot table"
+    )?;
+    let width = Width::try_from(4).unwrap();
+    let mark = SlotRecord {
+        filled: true,
+        value: 5,
+        care: 7,
+    };
+    let mut records = [mark; 122];
+    let mut exchanges = [
+        FilterCall::Hold,
+        FilterCall::add(TAG, Range::new(1, 3)),
+        FilterCall::add(TAG, Range::new(8, 11)),
+    ]
+    .map(FilterCall::unanswered);
+    let flip = Flip { mask: 0b0001 };
+    replay_on_records(flip, Turn, width, &mut records, TAG, &mut exchanges);
+    for FilterExchange { call, answer } in exchanges {
+        let answers = &[answer];
+        println!(rt; "{}:{}", ShownCall(call), ShownAnswers { width, answers })?;
+    }
+    for index in [0, 1, 2, 3, 119, 120, 121] {
+        println!(rt; "record {index}: {}", ShownRecord(records[index]))?;
+    }
+    Ok(())
 }

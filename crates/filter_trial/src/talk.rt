@@ -1,4 +1,5 @@
 // Calls to a filter and their answers, in words.
+use device::slot_record::SlotRecord;
 use filter_calls::call::{FilterAnswer, FilterCall, RefusedCall};
 use rows::range::Range;
 use rows::width::Width;
@@ -93,5 +94,21 @@ impl fmt::Display for ShownAnswers<'_> {
             write!(f, "{before}{}", ShownAnswer { width, answer })?;
         }
         Ok(())
+    }
+}
+
+// A record of the caller's memory, word by word.
+#[derive(Clone, Copy)]
+pub(super) struct ShownRecord(pub(super) SlotRecord);
+
+impl fmt::Display for ShownRecord {
+    fn fmt<W: fmt::Write>(&self, f: &mut fmt::Formatter<W>) -> fmt::Result {
+        let SlotRecord {
+            filled,
+            value,
+            care,
+        } = self.0;
+        let state = if filled { "filled" } else { "empty" };
+        write!(f, "{state}, value {value}, care {care}")
     }
 }

@@ -1,0 +1,81 @@
+// Memory and a device that are lent, and what their owner finds afterwards.
+use super::refusals::{holds_at_the_end, refuses};
+use device::call::{DeviceAnswer, DeviceCall, DeviceExchange};
+use device::column_table::ColumnTable;
+use device::device::RowDevice;
+use device::lent::replay_on_records;
+use device::lent_device::LentDevice;
+use device::slot_record::SlotRecord;
+use rows::refusal::Refusal;
+use rows::row::Row;
+use rows::width::Width;
+use std::test::Fail;
+
+#[test]
+fn lent_records_are_those_of_the_slots(rt: HostRuntime) -> Result<(), Fail> {
+    let width = Width::try_from(4)?;
+    let mark = SlotRecord {
+        filled: true,
+        value: 3,
+        care: 7,
+    };
+    let mut records = [mark; 123];
+    let row = Row::new(0b1001, 0b1101);
+    let last = Row::new(0b0010, 0b0011);
+    let expected = [
+        (DeviceCall::Put { slot: 0, row }, Ok(DeviceAnswer::Done)),
+        (DeviceCall::Put { slot: 1, row }, Ok(DeviceAnswer::Done)),
+        (
+            DeviceCall::Put {
+                slot: 119,
+                row: last,
+            },
+            Ok(DeviceAnswer::Done),
+        ),
+        (DeviceCall::Put { slot: 120, row }, Err(Refusal::NoSuchSlot)),
+        (DeviceCall::Empty { slot: 1 }, Ok(DeviceAnswer::Done)),
+        (
+            DeviceCall::Read { slot: 0 },
+            Ok(DeviceAnswer::Holds(Some(row))),
+        ),
+        (DeviceCall::Read { slot: 1 }, Ok(DeviceAnswer::Holds(None))),
+        (
+            DeviceCall::Ask { number: 0b1110 },
+            Ok(DeviceAnswer::Says(true)),
+        ),
+    ];
+    // an answer that no call gets
+    let mut exchanges = expected.map(|(call, _)| DeviceExchange {
+        call,
+        answer: Err(Refusal::RowOutsideWidth),
+    });
+    replay_on_records(width, &mut records, &mut exchanges);
+    for (exchange, (_, answer)) in exchanges.iter().zip(&expected) {
+        assert_eq!(rt; exchange.answer, *answer);
+    }
+    for (slot, record) in records.iter().enumerate() {
+        let held = match slot {
+            0 => SlotRecord::from(row),
+            119 => SlotRecord::from(last),
+            120.. => mark,
+            _ => SlotRecord::EMPTY,
+        };
+        assert_eq!(rt; *record, held, "slot {slot}");
+    }
+    Ok(())
+}
+
+#[test]
+fn a_table_has_what_was_put_while_it_was_lent(rt: HostRuntime) -> Result<(), Fail> {
+    let width = Width::try_from(4)?;
+    let mut table = ColumnTable::new(width, 3);
+    let row = Row::new(0b1001, 0b1101);
+    let mut lent = LentDevice::new(&mut table);
+    refuses(&rt, &mut lent, 3);
+    holds_at_the_end(&rt, &mut lent, 2);
+    assert_eq!(rt; lent.put(1, row), Ok(()));
+    assert_eq!(rt; lent.ask(0b1011), Ok(true));
+    assert_eq!(rt; table.read(1), Ok(Some(row)));
+    assert_eq!(rt; table.read(2), Ok(None));
+    Ok(())
+}
