@@ -3,4 +3,5 @@ pub mod Stretches
 pub mod Ascending
 pub mod Ranges
 pub mod Runs
+pub mod Untouched
 pub mod Rows

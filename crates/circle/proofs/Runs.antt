@@ -1,4 +1,4 @@
--- The runs of a set are its longest unbroken stretches, and no other list is.
+-- The list `runs` of a set meets `IsRuns`, and no other list does.
 use Rattle.std.proofs.Common.{◌≡◌, ℕ, ◌+◌, ◌-◌, ◌^◌, ◌<◌, Bool, true, false, cond, List, [], ◌∷◌, map, filter, sym, refl, ap, ◌∙◌, ap₂, inl, inr, arith, pow_pos}
 use Rattle.std.specs.List.{ContainsAt as Has, AllByRecursion}
 use Rattle.std.proofs.lemmas.Bool.{both_ways, false≢true, cases_Bool, cases_lt, or_left}

@@ -1,9 +1,9 @@
 -- What the runs of a set are, and the theorems about them.
-use Rattle.std.specs.Prelude.{◌≡◌, ℕ, ◌-◌, ◌^◌, ◌<◌, true, false, ◌⊎◌, List, length}
+use Rattle.std.specs.Prelude.{◌≡◌, ℕ, ◌-◌, ◌^◌, ◌<◌, true, false, ◌⊎◌, List, [], ◌∷◌, length}
 use Rattle.std.specs.List.{AllByRecursion}
 use Rattle.covers.specs.Rules.{rows_of_runs}
 use Rattle.covers.specs.Rivals.{NumberSet, in_range, in_ranges, Pairs, TakesPrecisely, Shortest, Within}
-use Rattle.covers.specs.Theorems.{Run, Untouched}
+use Rattle.covers.specs.Theorems.{Run}
 use Rattle.circle.specs.Runs.{before, after, begins, ends, last_from, runs}
 
 -- every number from f up the circle to l is in the set, and the number after l is not
@@ -42,10 +42,35 @@ RunsDetermined = (n : ℕ) (S : NumberSet) (ranges : List (ℕ × ℕ)) → IsRu
 abbrev pub RunsOfEqualSets : Type 0
 RunsOfEqualSets = (n : ℕ) (S T : NumberSet) → ((x : ℕ) → x < 2 ^ n → S x ≡ T x) → runs n S ≡ runs n T
 
+-- the ranges do not touch on the circle: the numbers right before and after each are in none of them, also those round from
+-- 2 ^ n − 1 to 0; the whole circle has no neighbours
+abbrev pub Untouched : ℕ → List (ℕ × ℕ) → Type 0
+Untouched n ranges = AllByRecursion (Longest n (in_ranges ranges)) ranges
+
+-- which ranges of width 3 touch
+pub record UntouchedAsWritten : Type 0 where
+  -- 0 to 1 and 6 to 7 touch round the circle, 1 to 2 and 3 to 4 in line
+  pub round : Untouched 3 ((0, 1) ∷ (6, 7) ∷ []) → ⊥
+  pub in_line : Untouched 3 ((1, 2) ∷ (3, 4) ∷ []) → ⊥
+  -- between 0 to 1 and 3 to 6 there are 2 and 7
+  pub apart : Untouched 3 ((0, 1) ∷ (3, 6) ∷ [])
+  pub circle : Untouched 3 ((0, 7) ∷ [])
+
+-- on the way up the circle from the last number of r to the first of q is a number that neither has
+abbrev pub Between : ℕ → ℕ × ℕ → ℕ × ℕ → Type 0
+Between n r q = (x : ℕ) × (x < 2 ^ n) × (in_range r.1 q.0 x ≡ true) × (in_range r.0 r.1 x ≡ false) × (in_range q.0 q.1 x ≡ false)
+
 -- the runs do not touch
 pub record RunsUntouched : Type 0 where
   pub proper : (n : ℕ) (S : NumberSet) → AllByRecursion (λ r. Run n r.0 r.1) (runs n S)
-  pub untouched : (n : ℕ) (S : NumberSet) → AllByRecursion (Untouched n (runs n S)) (runs n S)
+  pub untouched : (n : ℕ) (S : NumberSet) → Untouched n (runs n S)
+  -- any two are apart, also the later one from the earlier round the circle
+  pub apart : (n : ℕ) (S : NumberSet) → Pairs (λ r q. Between n r q × Between n q r) (runs n S)
+
+-- the lists of any k runs that do not touch have at most 2 · k times the rows of any rival
+abbrev pub UntouchedBounded : Type 0
+UntouchedBounded = (n : ℕ) (ranges : List (ℕ × ℕ)) → AllByRecursion (λ r. Run n r.0 r.1) ranges → Untouched n ranges →
+    Within (length ranges) n (rows_of_runs n ranges)
 
 -- the rows of k runs take just the set and are at most 2 · k times those of any rival; those of one run are the fewest
 pub record RowsOfRuns : Type 0 where

@@ -1,5 +1,5 @@
 // The theorems, each the contract of a small function.
-ghost use Rattle.circle.specs.Theorems.{LastsDetermined, RowsOfRuns, RunsAreRuns, RunsDetermined, RunsOfEqualSets, RunsUntouched};
+ghost use Rattle.circle.specs.Theorems.{LastsDetermined, RowsOfRuns, RunsAreRuns, RunsDetermined, RunsOfEqualSets, RunsUntouched, UntouchedAsWritten, UntouchedBounded};
 
 fn lasts_are_determined()
     ensures holds { LastsDetermined }
@@ -19,6 +19,14 @@ fn equal_sets_have_equal_runs()
 
 fn runs_do_not_touch()
     ensures holds { RunsUntouched }
+{}
+
+fn touching_as_written()
+    ensures holds { UntouchedAsWritten }
+{}
+
+fn untouched_runs_are_bounded()
+    ensures holds { UntouchedBounded }
 {}
 
 fn rows_of_runs_are_exact_and_few()

@@ -24,3 +24,4 @@ pub mod Turned
 pub mod Partings
 pub mod WitnessSound
 pub mod WitnessCounts
+pub mod Equalities

@@ -8,7 +8,7 @@ use Rattle.covers.specs.Symbols.{Symbols, list_takes}
 use Rattle.covers.specs.Rules.{rows_of_run, rows_of_runs}
 use Rattle.covers.specs.Rivals.{in_range, in_ranges, Within}
 use Rattle.covers.specs.WitnessNumbers.{numbers_of_range}
-use Rattle.covers.specs.Theorems.{Run, LowerBound, ListsWitnessed, ListsShortest, Untouched}
+use Rattle.covers.specs.Theorems.{Run, LowerBound, ListsWitnessed, ListsShortest, ApartInLine}
 use Rattle.covers.proofs.Lists.{all_mono, all_both, all_map, pairs_map}
 use Rattle.covers.proofs.Witnesses.{Same, previous, Exact, Clash, same_trans}
 use Rattle.covers.proofs.Order.{same_next, same_previous}
@@ -67,7 +67,7 @@ module _ (n : ℕ) (runs : List (ℕ × ℕ)) (all : AllByRecursion (λ r. Run n
       not_taken (next (digits n b)) s (f (value (next (digits n b))) (value_fits n 0 (next (digits n b)) s) (next_value (digits n b) o ∙ ap (λ k. k + 1) (value_digits n b hb)))
 
   -- one run against a rival of all
-  run_bound : (other : List Symbols) → Exact (digits n 0) (list_takes (rows_of_runs n runs)) other → (r : ℕ × ℕ) → Run n r.0 r.1 → Untouched n runs r →
+  run_bound : (other : List Symbols) → Exact (digits n 0) (list_takes (rows_of_runs n runs)) other → (r : ℕ × ℕ) → Run n r.0 r.1 → ApartInLine n runs r →
       ((w : Digits) → list_takes (rows_of_run n r.0 r.1) w ≡ true → list_takes (rows_of_runs n runs) w ≡ true) →
       length (rows_of_run n r.0 r.1) ≤ 2 * length other
   run_bound other ex (f, l) R un among = go (leb f l) refl
@@ -106,9 +106,9 @@ total n k (r ∷ runs) h =
     let h4 : 2 * suc (length runs) * k ≡ 2 * k + 2 * length runs * k = ap (λ j. j * k) (mul-suc 2 (length runs)) ∙ add-mul (2 * length runs) 2 k ∙ add_comm (2 * length runs * k) (2 * k) in
     omega arith
 
-pub bounded : (n : ℕ) (runs : List (ℕ × ℕ)) → AllByRecursion (λ r. Run n r.0 r.1) runs → AllByRecursion (Untouched n runs) runs → Within (length runs) n (rows_of_runs n runs)
+pub bounded : (n : ℕ) (runs : List (ℕ × ℕ)) → AllByRecursion (λ r. Run n r.0 r.1) runs → AllByRecursion (ApartInLine n runs) runs → Within (length runs) n (rows_of_runs n runs)
 bounded n runs all un other R =
     let ex : Exact (digits n 0) (list_takes (rows_of_runs n runs)) other = λ u s.
     ap (list_takes other) (sym (of_value n 0 u s)) ∙ R.same_numbers (value u) (value_fits n 0 u s) ∙ ap (list_takes (rows_of_runs n runs)) (of_value n 0 u s) in
     total n (length other) runs
-    (all_both {P = λ r. Run n r.0 r.1 × Untouched n runs r} (λ r p f. run_bound n runs all other ex r p.0 p.1 f) runs (all_both (λ r p q. (p, q)) runs all un) (among n runs))
+    (all_both {P = λ r. Run n r.0 r.1 × ApartInLine n runs r} (λ r p f. run_bound n runs all other ex r p.0 p.1 f) runs (all_both (λ r p q. (p, q)) runs all un) (among n runs))

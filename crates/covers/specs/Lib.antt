@@ -1,4 +1,5 @@
 pub mod Digits
+pub mod Equality
 pub mod Symbols
 pub mod Words
 pub mod Rules

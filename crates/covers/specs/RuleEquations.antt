@@ -12,7 +12,7 @@ plain m = replicate m Dash
 pub record RuleEquations : Type 0 where
   -- every number of m places: one row of dashes
   pub whole : (m : ℕ) → straight_rows m 0 (2 ^ m - 1) ≡ plain m ∷ []
-  -- the first digits are equal: the list for the remaining places, with that digit before each row
+  -- both ends begin with the same digit: that digit before each row of the list that their other digits give
   pub same_first_zero : (m a b : ℕ) → a ≤ b → b < 2 ^ m →
       straight_rows (suc m) a b ≡ map (λ r. Zero ∷ r) (straight_rows m a b)
   pub same_first_one : (m a b : ℕ) → a ≤ b → b < 2 ^ m →

@@ -17,7 +17,8 @@ swap Zero = One
 swap One = Zero
 swap Dash = Dash
 
--- the numbers below c: for each 1 in c, first place to last, the digits of c before it, then 0, then dashes
+-- the numbers below c: each 1 of c, from the first place on, gives a row that begins as c does before this 1, has a 0 in
+-- its place, and dashes behind
 abbrev pub below : Digits → List Symbols
 below [] = []
 below (true ∷ c) = (Zero ∷ dashes c) ∷ map (λ r. One ∷ r) (below c)
@@ -36,7 +37,7 @@ abbrev pub insert : Symbol → Symbols → Symbols
 insert s [] = []
 insert s (t ∷ r) = t ∷ s ∷ r
 
--- a leading 0 becomes "-0", a leading 1 becomes "1-", and a leading dash becomes two
+-- the first symbol made two: "-0" of a 0, "1-" of a 1, two dashes of a dash
 abbrev pub widen : Symbols → Symbols
 widen [] = []
 widen (Zero ∷ r) = Dash ∷ Zero ∷ r
@@ -104,7 +105,7 @@ rows_of_run n f l = cond (nat_le f l) (straight_rows n f l) (round_rows n f l)
 abbrev pub most_rows : ℕ → ℕ
 most_rows n = cond (nat_le n 1) 1 (2 * n - 2)
 
--- the one run of a range: a range that goes round and leaves no number out is the whole circle
+-- the one run of a range; if the first number is just one above the last, no number is left out: the whole circle
 abbrev pub run_first : ℕ → ℕ → ℕ
 run_first f l = cond (f == l + 1) 0 f
 

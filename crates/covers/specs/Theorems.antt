@@ -32,7 +32,7 @@ pub record Run (n f l : ℕ) : Type 0 where
 abbrev pub ListsExact : Type 0
 ListsExact = (n f l : ℕ) → Run n f l → TakesPrecisely n (rows_of_run n f l) (in_range f l)
 
--- a run needs one row at width 1, and at most 2n − 2 from width 2 on
+-- the list of a run has at most 2n − 2 rows, or one where n is 1
 abbrev pub ListsFew : Type 0
 ListsFew = (n f l : ℕ) → 1 ≤ n → length (rows_of_run n f l) ≤ most_rows n
 
@@ -50,12 +50,13 @@ ListsWitnessed = (n f l : ℕ) → Run n f l →
 abbrev pub ListsShortest : Type 0
 ListsShortest = (n f l : ℕ) → Run n f l → Shortest n (rows_of_run n f l)
 
--- the numbers right beside a run are in none of the runs
-abbrev pub Untouched : ℕ → List (ℕ × ℕ) → ℕ × ℕ → Type 0
-Untouched n runs r = (x : ℕ) → x < 2 ^ n → (x + 1 ≡ r.0) ⊎ (x ≡ r.1 + 1) → in_ranges runs x ≡ false
+-- the numbers right beside a run, counted in line and not round from 2 ^ n − 1 to 0, are in none of the runs
+abbrev pub ApartInLine : ℕ → List (ℕ × ℕ) → ℕ × ℕ → Type 0
+ApartInLine n runs r = (x : ℕ) → x < 2 ^ n → (x + 1 ≡ r.0) ⊎ (x ≡ r.1 + 1) → in_ranges runs x ≡ false
 
--- the lists of k runs that do not touch take just the numbers of the runs, and have at most 2 · k times the rows of any rival
+-- the lists of k runs take just the numbers of the runs, and have at most 2 · k times the rows of any rival if the runs are
+-- apart in line, even where two of them touch from 2 ^ n − 1 round to 0
 pub record SeveralRuns : Type 0 where
   pub exact : (n : ℕ) (runs : List (ℕ × ℕ)) → AllByRecursion (λ r. Run n r.0 r.1) runs → TakesPrecisely n (rows_of_runs n runs) (in_ranges runs)
-  pub bounded : (n : ℕ) (runs : List (ℕ × ℕ)) → AllByRecursion (λ r. Run n r.0 r.1) runs → AllByRecursion (Untouched n runs) runs →
+  pub bounded : (n : ℕ) (runs : List (ℕ × ℕ)) → AllByRecursion (λ r. Run n r.0 r.1) runs → AllByRecursion (ApartInLine n runs) runs →
       Within (length runs) n (rows_of_runs n runs)

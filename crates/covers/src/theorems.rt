@@ -1,8 +1,16 @@
 // The theorems, each the contract of a small function.
 ghost use Rattle.std.specs.Prelude.{◌≡◌, length};
+ghost use Rattle.covers.specs.Equality.{IsEquality};
 ghost use Rattle.covers.specs.Examples.{ExamplesHold, examples};
 ghost use Rattle.covers.specs.RuleEquations.{RuleEquations};
 ghost use Rattle.covers.specs.Theorems.{DigitsAndBack, WordsAndBack, ListsExact, ListsFew, ListsShortest, ListsWitnessed, LowerBound, SeveralRuns};
+
+use super::symbol::Symbol;
+
+// `==` of symbols is equality.
+fn equality()
+    ensures symbol { IsEquality ⟦<Symbol as PartialEq>⟧.eq }
+{}
 
 fn digits_and_back()
     ensures holds { DigitsAndBack }
