@@ -6,3 +6,4 @@ pub mod EdgeLists
 pub mod AcrossLists
 pub mod RunLists
 pub mod BesideLists
+pub mod FromZero

@@ -1,5 +1,6 @@
 -- The lists of straight runs and of runs that go round, as words behind a front.
-use Rattle.std.proofs.Common.{◌≡◌, ℕ, zero, suc, ◌+◌, ◌-◌, ◌*◌, ◌/◌, ◌%◌, ◌^◌, ◌<◌, ◌≤◌, Bool, true, false, cond, not, List, [], ◌∷◌, ◌++◌, map, length, Ok, sym, refl, ap, ◌∙◌, ap₂, inl, inr, add_assoc, mod-lt, add-mul, zero-add, arith, pow_pos, pow_mono, pow-add}
+use Rattle.std.proofs.Common.{◌≡◌, ℕ, zero, suc, ◌+◌, ◌-◌, ◌*◌, ◌/◌, ◌%◌, ◌^◌, ◌<◌, ◌≤◌, Bool, true, false, cond, not, List, [], ◌∷◌, ◌++◌, map, length, take, Ok, sym, subst, refl, ap, ◌∙◌, ap₂, inl, inr, add_assoc, mod-lt, add-mul, zero-add, arith, pow_pos, pow_mono, pow-add}
+use Rattle.std.specs.List.{AllByRecursion}
 use lib.Arith.{digits_lt}
 use lib.Bits.{bit_and, bit_xor, xor_shr, xor_self, xor_assoc, xor_zero_l, xor_zero_r, xor_lt}
 use Rattle.std.proofs.lemmas.Nat.{shr_split, shr_below, div_below, le-div, xor_mod}
@@ -12,7 +13,8 @@ use Rattle.covers.specs.Symbols.{Symbols}
 use Rattle.covers.specs.Words.{value_word, care_word, symbols}
 use Rattle.covers.specs.Rules.{swap_first, straight_rows, round_rows, rows_of_run, run_first, run_last, rows_of_range}
 use Rattle.covers.proofs.Equations.{equations_hold}
-use Rattle.covers.proofs.RowWords.{symbols_back, clean_word}
+use Rattle.covers.proofs.RowWords.{symbols_back, care_word_fits, clean_word}
+use Rattle.covers.proofs.Lists.{all_map}
 use Rattle.covers.proofs.RowLengths.{Long, straight_rows_long, round_rows_long}
 use Rattle.rows.specs.declared.row_words.RowWords.{RowWords}
 use Rattle.ranges.specs.declared.front.Front.{Front}
@@ -250,10 +252,21 @@ words_behind front v c (r ∷ rows) =
     (same_words (behind_words front r) (words_of r) (ap (λ x. x + value_word r) v ∙ zero-add (value_word r)) (ap (λ x. x + care_word r) c ∙ zero-add (care_word r)))
     (words_behind front v c rows)
 
+-- the first rows of memory, where a list stands there
+pub first_rows : (rows : List Symbols) (rest : List RowWords) (k : ℕ) → k ≡ length rows → take k (map words_of rows ++ rest) ≡ map words_of rows
+first_rows rows rest k e = take_at (map words_of rows) rest k (length-map rows words_of ∙ sym e)
+
+-- their words care only within the width, and have no 1 in the value where they do not care
+pub words_within : (n : ℕ) (rows : List Symbols) → Long n rows → AllByRecursion (λ w. w.care < 2 ^ n) (map words_of rows)
+words_within n rows h = all_map words_of (λ w. w.care < 2 ^ n) (λ r e. subst (λ k. care_word r < 2 ^ k) e (care_word_fits r)) rows h
+
+pub words_clean : (n : ℕ) (rows : List Symbols) → Long n rows → AllByRecursion (λ w. bit_and w.value w.care ≡ w.value) (map words_of rows)
+words_clean n rows h = all_map words_of (λ w. bit_and w.value w.care ≡ w.value) (λ r e. clean_word r) rows h
+
 -- rows that stand in memory are read back
 pub rows_read : (n : ℕ) (rows : List Symbols) (rest : List RowWords) (k : ℕ) → Long n rows → k ≡ length rows → rows_in n k (map words_of rows ++ rest) ≡ rows
 rows_read n rows rest k h e =
-    ap (map (λ w. symbols n (bit_and w.value w.care) w.care)) (take_at (map words_of rows) rest k (length-map rows words_of ∙ sym e)) ∙ back rows h
+    ap (map (λ w. symbols n (bit_and w.value w.care) w.care)) (first_rows rows rest k e) ∙ back rows h
   where
     back : (rows : List Symbols) → Long n rows → map (λ w. symbols n (bit_and w.value w.care) w.care) (map words_of rows) ≡ rows
     back [] h = refl

@@ -1,2 +1,3 @@
 pub mod RangeRows
+pub mod FromZero
 pub mod Building

@@ -42,7 +42,7 @@ impl Ends {
         1u64 << self.places
     }
 
-    // The range's one run; a range that goes round and leaves no number out is the whole circle.
+    // The range's one run; if the first number is just one above the last, no number is left out: the whole circle.
     pub(super) fn run(self) -> Ends
         ensures places { result.places ≡ self.places }
         ensures first { result.first ≡ run_first self.first self.last }

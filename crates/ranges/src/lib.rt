@@ -11,5 +11,6 @@ mod lists;
 mod memory;
 pub mod range;
 mod stretch;
+mod theorems;
 mod turned;
 pub mod witness;

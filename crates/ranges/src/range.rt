@@ -1,8 +1,11 @@
 // The rows of a range.
-ghost use Rattle.std.specs.Prelude.{◌≡◌, ◌≤◌, true, ◌++◌, map, length, drop, is_err, IfOk};
+ghost use Rattle.std.specs.Prelude.{◌≡◌, ◌+◌, ◌^◌, ◌<◌, ◌≤◌, true, cond, ◌++◌, map, length, take, drop, Ok, Err, is_err, IfOk, nat_le, bit_and, count_ones};
+ghost use Rattle.std.specs.List.{AllByRecursion};
 ghost use Rattle.covers.specs.Rivals.{in_range, Shortest, TakesPrecisely};
 ghost use Rattle.covers.specs.Rules.{most_rows, rows_of_range};
 ghost use Rattle.rows.specs.Memory.{words_of};
+ghost use Rattle.rows.specs.declared.refusal.Refusal.TheVariants.{MemoryTooShort};
+ghost use Rattle.ranges.specs.FromZero.{rows_below};
 ghost use Rattle.ranges.specs.RangeRows.{range_answer, rows_in};
 ghost use Rattle.rows.specs.Widths.{places_of};
 
@@ -25,6 +28,15 @@ pub fn rows_of_range(width: Width, range: Range, memory: &mut [RowWords]) -> Res
     ensures written { IfOk result (λ k. memory.new ≡ map words_of (rows_of_range (places_of width) range.first range.last) ++ drop k memory.old) }
     ensures untouched_when_refused { is_err result ≡ true → memory.new ≡ memory.old }
     ensures by_the_rules { IfOk result (λ k. rows_in (places_of width) k memory.new ≡ rows_of_range (places_of width) range.first range.last) }
+    ensures of_width { IfOk result (λ k.
+        AllByRecursion (λ words. words.care < 2 ^ places_of width) (take k memory.new)) }
+    ensures no_value_under_dashes { IfOk result (λ k.
+        AllByRecursion (λ words. bit_and words.value words.care ≡ words.value) (take k memory.new)) }
+    ensures rows_from_zero { range.first ≡ 0 → range.last + 1 < 2 ^ places_of width →
+        IfOk result (λ k. take k memory.new ≡ rows_below (places_of width) (range.last + 1)) }
+    ensures count_from_zero { range.first ≡ 0 → range.last < 2 ^ places_of width →
+        result ≡ cond (nat_le (count_ones (range.last + 1)) (length memory.old))
+        (Ok (count_ones (range.last + 1))) (Err MemoryTooShort) }
     ensures few { IfOk result (λ k. k ≤ most_rows (places_of width)) }
     ensures exact { IfOk result (λ k. TakesPrecisely (places_of width) (rows_in (places_of width) k memory.new) (in_range range.first range.last)) }
     ensures shortest { IfOk result (λ k. Shortest (places_of width) (rows_in (places_of width) k memory.new)) }

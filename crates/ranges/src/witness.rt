@@ -18,7 +18,7 @@ use rows::range::Range;
 use rows::refusal::Refusal;
 use rows::width::Width;
 
-// Writes as many numbers of the range as it has rows at the start of memory, and answers how many they are. No row that
+// Writes numbers of the range at the start of memory, as many as its rows are, and answers how many they are. No row that
 // keeps to the range takes two of them, so no list of rows for the range is shorter than they are many. Which numbers
 // they are is left free. Refused as the rows of the range are.
 pub fn witness_of_range(width: Width, range: Range, memory: &mut [u64]) -> Result<usize, Refusal>

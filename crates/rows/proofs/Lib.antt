@@ -1,3 +1,4 @@
 pub mod Writing
 pub mod Widths
 pub mod RowTexts
+pub mod SameRows

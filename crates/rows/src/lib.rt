@@ -6,6 +6,6 @@ pub mod narrowest;
 pub mod range;
 pub mod refusal;
 pub mod row;
-pub mod row_text;
 pub mod row_words;
+mod theorems;
 pub mod width;

@@ -2,6 +2,8 @@
 ghost use Rattle.std.specs.Prelude.{◌≡◌, Some};
 ghost use Rattle.rows.specs.Refusals.{number_of, refusal_text};
 
+use arrayvec::ArrayString;
+use itoa::Buffer;
 use std::fmt;
 
 // Why a call was refused.
@@ -44,11 +46,26 @@ impl From<Refusal> for u32 {
     }
 }
 
-// "refused" and the number.
+/// A refusal as it is written, in fixed room: "refused " and at most ten digits, as any number of 32 bits has.
+pub type RefusalText = ArrayString<18>;
+
+impl Refusal {
+    /// "refused" and the number, as "refused 4".
+    pub fn text(self) -> RefusalText
+        ensures bytes { result.bytes ≡ refusal_text self }
+    {
+        let mut text = RefusalText::new();
+        text.push_str("refused ");
+        text.push_str(Buffer::new().format(u32::from(self)));
+        text
+    }
+}
+
+// The refusal's text.
 impl fmt::Display for Refusal {
     ghost output = { λ refusal. Some (refusal_text refusal) };
 
     fn fmt<W: fmt::Write>(&self, f: &mut fmt::Formatter<W>) -> fmt::Result {
-        write!(f, "refused {}", *self as u32)
+        f.write_str(self.text().as_str())
     }
 }

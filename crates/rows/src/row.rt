@@ -1,11 +1,14 @@
 // A row: the numbers that it takes are those that agree with its value at every place where it cares.
-ghost use Rattle.std.specs.Prelude.{◌≡◌, ℕ, ◌^◌, ◌<◌, ◌==◌, bit_and};
+ghost use Rattle.std.specs.Prelude.{◌≡◌, ℕ, ◌^◌, ◌<◌, ◌==◌, map, bit_and};
 ghost use Rattle.covers.specs.Digits.{digits};
-ghost use Rattle.covers.specs.Symbols.{takes};
+ghost use Rattle.covers.specs.Symbols.{letter, takes};
 ghost use Rattle.covers.specs.Words.{symbol_at, symbols};
+ghost use Rattle.rows.specs.Widths.{places_of};
 
 use super::digit::has_one;
 use super::row_words::RowWords;
+use super::width::{MOST_PLACES, Width};
+use arrayvec::ArrayString;
 use covers::symbol::Symbol;
 
 // A value and a care mask of 32 places each, never with a 1 in the value where it does not care.
@@ -15,6 +18,9 @@ pub struct Row {
     care: u32,
     ghost clean: { bit_and value care ≡ value },
 }
+
+/// A row as it is written, in fixed room: as many symbols as its width has places.
+pub type RowText = ArrayString<MOST_PLACES>;
 
 impl Row {
     // The row of a value and a care mask; ones of the value where it does not care are cleared.
@@ -59,6 +65,17 @@ impl Row {
         ensures by_symbols { (n : ℕ) → self.care < 2 ^ n → result ≡ takes (symbols n self.value self.care) (digits n number) }
     {
         number & u64::from(self.care) == u64::from(self.value)
+    }
+
+    /// The row as it is written at a width: a symbol for each place, the first place first.
+    pub fn text(self, width: Width) -> RowText
+        ensures symbols { result.bytes ≡ map letter (symbols (places_of width) self.value self.care) }
+    {
+        let mut text = RowText::new();
+        for place in (0..width.places()).rev() {
+            text.push(char::from(self.symbol_at(place)));
+        }
+        text
     }
 }
 

@@ -3,6 +3,9 @@ ghost use Rattle.std.specs.Prelude.{◌≡◌, ◌^◌, ◌≤◌};
 
 use super::refusal::Refusal;
 
+/// The most places that a width has.
+pub const MOST_PLACES: usize = 32;
+
 // A number of places from 1 to 32, kept as one less, of which five bits count: so every value is a width.
 // No ghost field, since a device over lent memory that has such a field could not lie below a layer or a filter.
 #[derive(Clone, Copy, PartialEq, Eq, Debug)]
@@ -19,7 +22,7 @@ impl TryFrom<u64> for Width {
 
     // The width of so many places, refused outside 1 to 32.
     fn try_from(places: u64) -> Result<Width, Refusal> {
-        if 1 <= places && places <= 32 {
+        if 1 <= places && places <= MOST_PLACES as u64 {
             Ok(Width {
                 spare: (places - 1) as u32,
             })

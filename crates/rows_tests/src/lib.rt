@@ -8,7 +8,7 @@ mod witnesses;
 mod tests {
     use covers::symbol::Symbol;
     use covers::theorems::worked_examples;
-    use ranges::range::rows_of_range;
+    use ranges::range::{MOST_ROWS, rows_of_range};
     use rows::range::Range;
     use rows::refusal::Refusal;
     use rows::row::Row;
@@ -79,6 +79,28 @@ mod tests {
             rows_of_range(width, Range::new(1, 6), &mut memory[0..3]),
             Ok(3)
         );
+        Ok(())
+    }
+
+    // 0 to 4 at width 3 has the rows 0-- and 100; a range from 0 has as many rows as its last number plus 1 has ones,
+    // none of which cares beyond the width.
+    #[test]
+    fn ranges_from_zero(rt: HostRuntime) -> Result<(), Fail> {
+        let mut memory = [OLD; MOST_ROWS];
+        let width = Width::try_from(3)?;
+        assert_eq!(rt; rows_of_range(width, Range::new(0, 4), &mut memory), Ok(2));
+        assert_eq!(rt; memory[0], RowWords { value: 0, care: 4 });
+        assert_eq!(rt; memory[1], RowWords { value: 4, care: 7 });
+        for places in 1..7 {
+            let width = Width::try_from(places)?;
+            for next in 1..=width.limit() {
+                let count = rows_of_range(width, Range::new(0, next - 1), &mut memory)?;
+                assert_eq!(rt; count, next.count_ones() as usize);
+                for words in &memory[0..count] {
+                    assert!(rt; u64::from(words.care) < width.limit());
+                }
+            }
+        }
         Ok(())
     }
 
