@@ -9,3 +9,4 @@ pub mod Columns
 pub mod ColumnTables
 pub mod SymbolTakes
 pub mod SameAnswers
+pub mod Equality

@@ -1,19 +1,9 @@
--- Rows are equal where their words are.
-use Rattle.std.proofs.Common.{◌≡◌, ℕ, refl, ap, subst}
-use native.Mathlib.Nat.{ℕ_set}
+-- Rows that are made of words.
+use Rattle.std.proofs.Common.{◌≡◌, ℕ, refl}
 use lib.Bits.{bit_and}
 use Rattle.rows.specs.declared.row.Row.{Row}
+use Rattle.rows.proofs.SameRows.{row_same}
 use Rattle.device.specs.MadeRows.{row_made}
-
-abbrev build : (v c : ℕ) → bit_and v c ≡ v → Row
-build v c h = record { value = v; care = c; clean = h }
-
-pub row_same : (a b : Row) → a.value ≡ b.value → a.care ≡ b.care → a ≡ b
-row_same a b p q =
-    subst (λ (c : ℕ). (h : bit_and b.value c ≡ b.value) → a ≡ build b.value c h) q
-    (λ h. subst (λ (v : ℕ). (h : bit_and v a.care ≡ v) → a ≡ build v a.care h) p
-    (λ h. ap (build a.value a.care) (ℕ_set (bit_and a.value a.care) a.value a.clean h)) h)
-    b.clean
 
 -- the row made of a row's own words
 pub row_made_row : (r : Row) → row_made r.value r.care ≡ r

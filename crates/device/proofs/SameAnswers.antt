@@ -15,7 +15,7 @@ use Rattle.device.specs.declared.call.DeviceAnswer.{DeviceAnswer}
 use Rattle.device.specs.declared.call.DeviceAnswer.TheVariants.{Done, Holds, Says}
 use Rattle.device.specs.contracts.call.DeviceAnswerPartialEq.TheImpl as answer_equality
 use Rattle.device.specs.Replays.{Answer}
-use Rattle.device.proofs.Rows.{row_same}
+use Rattle.rows.proofs.SameRows.{row_same}
 
 -- a result that equals a test decides what the test decides
 by_test : {P : Type 0} (s r : Bool) → r ≡ s → Decides s P → Decides r P

@@ -11,7 +11,7 @@ pub record Carrying : Type 0 where
   pub row_back : Row → Row
 
 -- the carrying is lawful at width n: numbers and rows of the width stay within it, there and back gives the same
--- from either side, and a row takes a number exactly when the carried row takes the carried number
+-- from either side, and a carried row takes a carried number just where the row takes the number
 pub record Carries (n : ℕ) (c : Carrying) : Type 0 where
   pub number_stays : (x : ℕ) → x < 2 ^ n → c.number_there x < 2 ^ n
   pub number_back_stays : (x : ℕ) → x < 2 ^ n → c.number_back x < 2 ^ n

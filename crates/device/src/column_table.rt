@@ -18,7 +18,7 @@ use rows::row::Row;
 use rows::row_words::RowWords;
 use rows::width::Width;
 
-// A device that keeps, for each place and digit, the set of slots that admit it; an empty slot admits none.
+// A device by sets of slots: at each place, those with a row that admits a 0 there, and those with one that admits a 1.
 #[derive(Drop)]
 pub struct ColumnTable {
     width: Width,

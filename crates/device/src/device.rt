@@ -57,7 +57,7 @@ pub trait RowDevice {
         ensures beside { keeps self.old [] self.new }
         ensures same_ways { carryings (levels self.new) ≡ carryings (levels self.old) };
 
-    // Whether the mute is off and a filled slot's row takes the number.
+    // Whether the mute is off and some slot has a row that takes the number.
     fn ask(&self, number: u64) -> Result<bool, Refusal>
         ensures answer { result ≡ ask_answer (state self.now) number };
 

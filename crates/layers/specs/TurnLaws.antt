@@ -12,7 +12,7 @@ use Rattle.rows.specs.declared.row.Row.{Row}
 use Rattle.device.specs.States.{row_takes}
 use Rattle.device.specs.MadeRows.{row_made}
 use Rattle.device.specs.Levels.{Carries}
-use Rattle.device.proofs.Rows.{row_same}
+use Rattle.rows.proofs.SameRows.{row_same}
 use Rattle.layers.specs.EqualTests.{eqb_both}
 use Rattle.layers.specs.Turns.{turned, turned_row, turn_carrying}
 

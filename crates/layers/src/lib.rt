@@ -5,4 +5,5 @@ pub mod flip;
 pub mod layer;
 pub mod line_map;
 pub mod pile;
+mod theorems;
 pub mod turn;
