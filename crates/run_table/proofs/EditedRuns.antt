@@ -21,7 +21,7 @@ use Rattle.run_table.proofs.Edges.{ends_fit, first_inside, begin_listed, end_lis
 use Rattle.run_table.proofs.Candidates.{has_from_in, candidates_ascend, candidates_below, new_in, old_in}
 use Rattle.run_table.proofs.Nearest.{nearest_end}
 
-firsts_same : (R : List Range) → map (λ r. r.0) (ranges_of R) ≡ firsts_of R
+pub firsts_same : (R : List Range) → map (λ r. r.0) (ranges_of R) ≡ firsts_of R
 firsts_same [] = refl
 firsts_same (r ∷ R) = ap (λ l. r.first ∷ l) (firsts_same R)
 

@@ -1,4 +1,5 @@
--- How the runs of the set after an edit are computed: terms for the contracts of the private functions.
+-- How the runs of the set after an edit are computed: terms for the contracts of the private functions, and for how many
+-- ranges an edit leaves where those before it are the runs of no set.
 use Rattle.std.specs.Prelude.{ℕ, ◌+◌, ◌-◌, ◌%◌, ◌^◌, min, Bool, true, false, cond, List, [], ◌∷◌, ◌++◌, map, filter, nat_lt}
 use Rattle.covers.specs.Rivals.{NumberSet, in_ranges}
 use Rattle.circle.specs.Runs.{before, after, begins, ends}
@@ -57,6 +58,11 @@ new_lasts n e runs = last_candidate n e ∷ lasts_of runs
 -- where a run may begin after the edit, ascending: the old firsts below x, x, and the old firsts above it
 abbrev pub below_and_above : ℕ → List ℕ → List ℕ
 below_and_above x firsts = filter (λ f. nat_lt f x) firsts ++ x ∷ filter (λ f. nat_lt x f) firsts
+
+-- the first numbers of the ranges that an edit leaves: of those before it, and of the one new number, each at which the set
+-- after it begins
+abbrev pub firsts_left : ℕ → Edit → List (ℕ × ℕ) → List ℕ
+firsts_left n e ranges = filter (begins n (edited e (in_ranges ranges))) (below_and_above (first_candidate n e) (map (λ r. r.0) ranges))
 
 -- the runs of the set after the edit that begin at one of these numbers
 abbrev pub runs_at : ℕ → Edit → List Range → List ℕ → List Range

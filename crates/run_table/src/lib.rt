@@ -8,3 +8,4 @@ mod editing;
 mod run;
 pub mod table;
 mod table_rows;
+mod theorems;

@@ -1,4 +1,4 @@
-use Rattle.std.proofs.Common.{◌≡◌, ℕ, ◌<◌, ◌≤◌, true, [], length, sym, ap, ◌∙◌, arith}
+use Rattle.std.proofs.Common.{◌≡◌, ℕ, ◌<◌, ◌≤◌, true, [], length, refl, sym, ap, ◌∙◌, inr, arith}
 use Rattle.std.proofs.lemmas.Bool.{both_ways, eqb-true, eqb-false}
 use Rattle.std.proofs.lemmas.List.{nil_from_length}
 use Rattle.rows.specs.Widths.{places_of}
@@ -6,7 +6,7 @@ use Rattle.rows.proofs.Widths.{places_most}
 use Rattle.run_table.specs.Tables.{ranges_of}
 use Rattle.run_table.specs.Edits.{edit_in_width}
 use Rattle.run_table.specs.NewRuns.{adding, new_runs}
-use Rattle.run_table.proofs.EditAnswers.{answered_whole, answered_runs, answered_many}
+use Rattle.run_table.proofs.EditAnswers.{left_counted, answered_whole, answered_runs, answered_many}
 use Rattle.run_table.proofs.table.RunTable.after_edit.Goals as goal
 use Rattle.run_table.proofs.table.RunTable.after_edit.Goals.{else-is_empty-via-then-is_empty+else-adds, else-is_empty-via-else-is_empty}
 
@@ -23,6 +23,7 @@ returns-then-len-gt-MOST_RUNS c =
     record {
       answer_else_left_free = λ S q w. answered_many c.args.self.now n e S R (most n (places_most c.args.width)) w c.runs.ensures.value q many;
       outside = λ o. absurd (both_ways (edit_in_width n e) o (sym c.if-not-in_width.ensures.value));
+      free_refusals = let k = left_counted n e R _ c.runs.ensures.value in inr (refl, sym c.if-not-in_width.ensures.value, omega arith);
     }
 
 pub returns-then-adds : goal.returns-then-adds
@@ -34,6 +35,7 @@ returns-then-adds c =
     record {
       answer_else_left_free = λ S q w. answered_whole c.args.self.now n e S R (most n (places_most c.args.width)) w c.runs.ensures.value q none (sym c.if-adds.ensures.value) c.whole.result c.whole.ensures.runs;
       outside = λ o. absurd (both_ways (edit_in_width n e) o (sym c.if-not-in_width.ensures.value));
+      free_refusals = let k = left_counted n e R _ c.runs.ensures.value in let z = ap length none in (sym c.if-not-in_width.ensures.value, omega arith);
     }
 
 pub returns : goal.returns
@@ -49,4 +51,5 @@ returns c =
     record {
       answer_else_left_free = λ S q w. answered_runs c.args.self.now n e S R (most n (places_most c.args.width)) w c.runs.ensures.value q some c.holding.result held;
       outside = λ o. absurd (both_ways (edit_in_width n e) o (sym c.if-not-in_width.ensures.value));
+      free_refusals = let k = left_counted n e R _ c.runs.ensures.value in let h = ap length c.new_runs-runs.ensures.runs in (sym c.if-not-in_width.ensures.value, omega arith);
     }
