@@ -7,7 +7,7 @@ use Rattle.covers.specs.Rivals.{NumberSet}
 use Rattle.covers.specs.Rules.{rows_of_runs}
 use Rattle.covers.specs.Theorems.{Run}
 use Rattle.circle.specs.Runs.{runs}
-use Rattle.circle.proofs.Rows.{runs_untouched}
+use Rattle.circle.proofs.Untouched.{runs_untouched}
 use Rattle.rows.specs.declared.refusal.Refusal.{Refusal}
 use Rattle.rows.specs.declared.refusal.Refusal.TheVariants.{NumberOutsideWidth, TooManyRuns}
 use Rattle.run_table.specs.declared.edit.Edit.{Edit}

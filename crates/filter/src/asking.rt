@@ -1,7 +1,8 @@
 // Questions to a filter.
-ghost use Rattle.std.specs.Prelude.{◌≡◌, length};
+ghost use Rattle.std.specs.Prelude.{◌≡◌, true, false, length, Err};
+ghost use Rattle.rows.specs.declared.refusal.Refusal.TheVariants.{FilterHeld};
 ghost use Rattle.rows.specs.Widths.{places_of};
-ghost use Rattle.device.specs.Answers.{read_answer};
+ghost use Rattle.device.specs.Answers.{ask_answer as device_answer, read_answer};
 ghost use Rattle.filter.specs.Ledger.{Ledger, ask_answer, run_answer, slot_answer};
 ghost use Rattle.filter.specs.StandsFor.{StandsFor};
 ghost use Rattle.filter.specs.Compared.{granted_only};
@@ -14,9 +15,14 @@ use rows::row::Row;
 use rows::width::Width;
 
 impl<D: RowDevice> Filter<D> {
-    // Whether the number is held; refused while the filter is held, then if it is no number of the width.
+    // Whether the number is held: what the device answers; refused while the filter is held, then if it is no number of the
+    // width.
     pub fn ask(&self, number: u64) -> Result<bool, Refusal>
-        ensures answer { (b : Ledger) → StandsFor D.RowDevice self.now b → result ≡ ask_answer b number }
+        ensures answer { (b : Ledger) → StandsFor D.RowDevice self.now b →
+            result ≡ ask_answer b number }
+        ensures as_the_device { self.now.held ≡ false →
+            result ≡ device_answer (D.state self.now.device) number }
+        ensures refused_if_held { self.now.held ≡ true → result ≡ Err FilterHeld }
     {
         if self.held {
             return Err(Refusal::FilterHeld);

@@ -1,8 +1,10 @@
 -- A filter that stands for a ledger keeps the promise.
-use Rattle.std.proofs.Common.{◌≡◌, ℕ, ◌*◌, ◌^◌, ◌<◌, Bool, List, length, sym, ap, ◌∙◌, subst, arith}
+use Rattle.std.proofs.Common.{◌≡◌, ℕ, ◌*◌, ◌^◌, ◌<◌, ◌≤◌, Bool, List, length, sym, ap, ◌∙◌, subst, arith}
 use Rattle.std.proofs.ByRecursion.{All-weaker}
-use Rattle.covers.specs.Rivals.{Shortest, Within}
+use Rattle.covers.specs.Rivals.{TakesPrecisely, Shortest, Within}
 use Rattle.circle.proofs.Rows.{rows}
+use Rattle.circle.proofs.Runs.{are_runs}
+use Rattle.run_table.proofs.Tables.{table_few}
 use Rattle.device.specs.declared.device.RowDevice.{Ghosts}
 use Rattle.device.specs.Levels.{Carries, Level, Beneath}
 use Rattle.device.specs.States.{DeviceState, some_slot_takes}
@@ -35,6 +37,12 @@ module _ {D : Type 0} (d : Ghosts D) (f : Filter D d) (b : Ledger) (s : StandsFo
   rows_there : rows_in b.width (d.state f.device).slots ≡ ledger_rows b
   rows_there = ap (rows_in b.width) s.slots ∙ rows_placed b.width b.slots (ledger_rows b) (runs_long b.width (ledger_runs b))
 
+  runs_few : length (ledger_runs b) ≤ 16
+  runs_few = let e = ap length s.runs in let h = table_few f.runs in omega arith
+
+  taken_top : TakesPrecisely b.width (rows_in b.width (d.state f.device).slots) b.numbers
+  taken_top = subst (λ l. TakesPrecisely b.width l b.numbers) (sym rows_there) (rows.exact b.width b.numbers)
+
   shortest_top : length (ledger_runs b) ≡ 1 → Shortest b.width (rows_in b.width (d.state f.device).slots)
   shortest_top h = subst (Shortest b.width) (sym rows_there) (rows.shortest b.width b.numbers h)
 
@@ -64,6 +72,9 @@ module _ {D : Type 0} (d : Ghosts D) (f : Filter D d) (b : Ledger) (s : StandsFo
       record {
         width = s.width;
         placed = s.slots;
+        runs = are_runs b.width b.numbers;
+        few = runs_few;
+        taken = taken_top;
         exact = exact_top;
         shortest = shortest_top;
         bounded = bounded_top;
@@ -75,6 +86,9 @@ pub kept_unmarked : (t : DeviceState) (levels : List Level) (b : Ledger) (mark :
 kept_unmarked t levels b mark k = record {
   width = k.width;
   placed = k.placed;
+  runs = k.runs;
+  few = k.few;
+  taken = k.taken;
   exact = k.exact;
   shortest = k.shortest;
   bounded = k.bounded;

@@ -1,7 +1,8 @@
 -- What a filter promises over every device and every list of calls.
-use Rattle.std.specs.Prelude.{◌≡◌, ℕ, ◌^◌, ◌<◌, List, length}
+use Rattle.std.specs.Prelude.{◌≡◌, ℕ, ◌^◌, ◌<◌, ◌≤◌, List, length}
 use Rattle.std.specs.List.{AllByRecursion}
-use Rattle.covers.specs.Rivals.{Shortest, Within}
+use Rattle.covers.specs.Rivals.{TakesPrecisely, Shortest, Within}
+use Rattle.circle.specs.Theorems.{IsRuns}
 use Rattle.device.specs.Levels.{Carrying, Carries, Level}
 use Rattle.device.specs.States.{DeviceState, some_slot_takes}
 use Rattle.device.specs.SymbolLaws.{rows_in}
@@ -34,7 +35,13 @@ pub record PromiseKept (t : DeviceState) (levels : List Level) (b : Ledger) : Ty
   pub width : t.width ≡ b.width
   -- the rows of the runs lie in the slots from 0 upward, and nothing in the others
   pub placed : t.slots ≡ placed b.slots (ledger_rows b)
-  -- they take precisely the ledger's numbers
+  -- the runs are the longest unbroken stretches of the ledger's numbers, ascending by their first numbers
+  pub runs : IsRuns b.width b.numbers (ledger_runs b)
+  -- no more than a table has room for
+  pub few : length (ledger_runs b) ≤ 16
+  -- the rows, by their symbols, take just the ledger's numbers
+  pub taken : TakesPrecisely b.width (rows_in b.width t.slots) b.numbers
+  -- and so do the slots, as the device asks them
   pub exact : (x : ℕ) → x < 2 ^ b.width → some_slot_takes t.slots x ≡ b.numbers x
   -- one run: no list is shorter
   pub shortest : length (ledger_runs b) ≡ 1 → Shortest b.width (rows_in b.width t.slots)

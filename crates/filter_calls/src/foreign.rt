@@ -1,5 +1,9 @@
 // Another filter, held for the token of its tag.
-ghost use Rattle.std.specs.Prelude.{◌≡◌, true};
+ghost use Rattle.std.specs.Prelude.{◌≡◌, [], true, false};
+ghost use Rattle.device.specs.KeptBeside.{KeptBeside};
+ghost use Rattle.filter.specs.Ledger.{Ledger};
+ghost use Rattle.filter.specs.StandsFor.{StandsFor};
+ghost use Rattle.filter_calls.specs.Promises.{PromiseKept};
 
 use device::device::RowDevice;
 use filter::filter::Filter;
@@ -23,8 +27,13 @@ impl<D: RowDevice> HeldFilter<D> {
         HeldFilter { filter, token }
     }
 
-    // Releases the filter with its token, and gives its device back.
-    pub(super) fn let_go(self) -> D {
+    // Releases the filter with its token, and gives its device back, its mute off.
+    pub(super) fn let_go(self) -> D
+        ensures kept { (b : Ledger) → StandsFor D.RowDevice self.filter b →
+            PromiseKept (D.state result) (D.levels result) b }
+        ensures mute_off { (D.state result).muted ≡ false }
+        ensures beside { KeptBeside D.RowDevice self.filter.device [] result }
+    {
         let HeldFilter { filter, token } = self;
         let mut filter = filter;
         filter.release(token).unwrap();

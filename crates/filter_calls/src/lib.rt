@@ -9,3 +9,5 @@ pub mod layered;
 pub mod lent;
 mod player;
 pub mod replay;
+pub mod slots;
+mod theorems;
