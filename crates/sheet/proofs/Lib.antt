@@ -1,9 +1,8 @@
 pub mod Rows
 pub mod Copies
-pub mod PackFaults
 pub mod Extended
 pub mod Opened
-pub mod ReadFaults
-pub mod RoundTrips
+pub mod SheetFaults
 pub mod CodesByIndex
 pub mod OpenedFaults
+pub mod RoundTrips

@@ -1,16 +1,16 @@
 -- A sheet that was opened: two bytes of header, and the body.
-use Rattle.std.proofs.Common.{◌≡◌, ℕ, suc, ◌+◌, ◌-◌, ◌*◌, ◌/◌, ◌%◌, ◌<◌, ◌≤◌, min, List, [], ◌∷◌, ◌++◌, map, length, get_or, take, drop, sym, ap, ◌∙◌, ap₂, suc-mul, arith}
+use Rattle.std.proofs.Common.{◌≡◌, ℕ, suc, ◌+◌, ◌-◌, ◌*◌, ◌/◌, ◌%◌, ◌<◌, ◌≤◌, min, List, [], ◌∷◌, ◌++◌, map, length, get_or, take, drop, sym, refl, ap, ◌∙◌, ap₂, suc-mul, arith}
 use Rattle.std.specs.List.{AllByRecursion}
 use Rattle.std.proofs.lemmas.Nat.{mul-le}
 use Rattle.std.proofs.lemmas.List.{take_all, take-take, drop-take, get_or-map, length-map}
 use Rattle.covers.specs.Digits.{Digits, digits}
 use Rattle.covers.specs.Symbols.{Symbols}
-use Rattle.sheets.specs.Format.{size_of_sheet}
+use Rattle.sheets.specs.Format.{size_of_sheet, Sheet}
 use Rattle.sheets.specs.Reading.{bits_of, width_field, count_field, symbol_bits, zero_bits, symbols_of}
 use Rattle.sheets.proofs.Codes.{take_symbols_of}
 use Rattle.sheets.proofs.Cuts.{cut, cut_at, length_cut}
 use Rattle.sheets.proofs.Headers as headers
-use Rattle.sheets.proofs.Readings.{rows_in}
+use Rattle.sheets.proofs.Readings.{rows_in, sheet_says}
 use Rattle.rows.specs.Memory.{words_of}
 use Rattle.sheet.proofs.Rows.{no_words}
 
@@ -32,15 +32,24 @@ needed_size : (places count needed : ℕ) → needed ≡ count * places / 4 + mi
 unfolding size_of_sheet
 needed_size places count needed h = omega arith
 
-pub opened : (sheet : List ℕ) (places count needed : ℕ) → ((i : ℕ) → get_or sheet i 0 < 256) → 2 ≤ length sheet → places ≡ get_or sheet 0 0 / 8 + 1 →
-    count ≡ get_or sheet 0 0 % 8 * 16 + get_or sheet 1 0 / 16 → needed ≡ count * places / 4 + min 1 (count * places % 4) → Opened sheet (take (length sheet - 2) (drop 2 sheet)) places count needed
+-- the width and the count, by the header's bytes
+header_width : (sheet : List ℕ) → ((i : ℕ) → get_or sheet i 0 < 256) → 2 ≤ length sheet → width_field sheet ≡ get_or sheet 0 0 / 8 + 1
+header_width [] fits two = absurd (omega arith)
+header_width (f ∷ []) fits two = absurd (omega arith)
+header_width (f ∷ (s ∷ rest)) fits two = headers.width_is f s rest (fits 0) (fits 1)
+
+header_count : (sheet : List ℕ) → ((i : ℕ) → get_or sheet i 0 < 256) → 2 ≤ length sheet → count_field sheet ≡ get_or sheet 0 0 % 8 * 16 + get_or sheet 1 0 / 16
+header_count [] fits two = absurd (omega arith)
+header_count (f ∷ []) fits two = absurd (omega arith)
+header_count (f ∷ (s ∷ rest)) fits two = headers.count_is f s rest (fits 0) (fits 1)
+
+opened_with : (sheet : List ℕ) (places count needed : ℕ) → ((i : ℕ) → get_or sheet i 0 < 256) → 2 ≤ length sheet → width_field sheet ≡ places →
+    count_field sheet ≡ count → needed ≡ count * places / 4 + min 1 (count * places % 4) → Opened sheet (take (length sheet - 2) (drop 2 sheet)) places count needed
 unfolding symbol_bits zero_bits
-opened [] places count needed fits two hp hc hn = absurd (omega arith)
-opened (f ∷ []) places count needed fits two hp hc hn = absurd (omega arith)
-opened (f ∷ (s ∷ rest)) places count needed fits two hp hc hn =
+opened_with [] places count needed fits two w c hn = absurd (omega arith)
+opened_with (f ∷ []) places count needed fits two w c hn = absurd (omega arith)
+opened_with (f ∷ (s ∷ rest)) places count needed fits two w c hn =
     let e : take (suc (suc (length rest)) - 2) rest ≡ rest = take_all (suc (suc (length rest)) - 2) rest (omega arith) in
-    let w = headers.width_is f s rest (fits 0) (fits 1) ∙ sym hp in
-    let c = headers.count_is f s rest (fits 0) (fits 1) ∙ sym hc in
     let n : 2 * (count_field (f ∷ (s ∷ rest)) * width_field (f ∷ (s ∷ rest))) ≡ 2 * (count * places) = ap₂ (λ (a b : ℕ). 2 * (a * b)) c w in
     record {
       two = two;
@@ -53,6 +62,33 @@ opened (f ∷ (s ∷ rest)) places count needed fits two hp hc hn =
           ap₂ (λ (a b : Digits). a ++ b) (headers.zeros_are f s rest (fits 0) (fits 1))
           (ap₂ (λ (k : ℕ) (u : Digits). drop k u) n (headers.rest_is f s rest (fits 0) (fits 1) ∙ ap bits_of (sym e)));
     }
+
+-- by the header's bytes
+pub opened : (sheet : List ℕ) (places count needed : ℕ) → ((i : ℕ) → get_or sheet i 0 < 256) → 2 ≤ length sheet → places ≡ get_or sheet 0 0 / 8 + 1 →
+    count ≡ get_or sheet 0 0 % 8 * 16 + get_or sheet 1 0 / 16 → needed ≡ count * places / 4 + min 1 (count * places % 4) → Opened sheet (take (length sheet - 2) (drop 2 sheet)) places count needed
+opened sheet places count needed fits two hp hc hn =
+    opened_with sheet places count needed fits two (header_width sheet fits two ∙ sym hp) (header_count sheet fits two ∙ sym hc) hn
+
+-- a sheet of rows, opened
+pub sheet_opened : (width : ℕ) (rows : List Symbols) (sheet : List ℕ) → Sheet width rows sheet → ((i : ℕ) → get_or sheet i 0 < 256) →
+    Opened sheet (take (length sheet - 2) (drop 2 sheet)) width (length rows) (length rows * width / 4 + min 1 (length rows * width % 4))
+sheet_opened width rows sheet is fits =
+    let s = sheet_says width rows sheet is in
+    opened_with sheet width (length rows) (length rows * width / 4 + min 1 (length rows * width % 4)) fits s.two s.width_is s.count_is refl
+
+-- how long it is, in numbers
+pub record Lengths (width count : ℕ) (sheet : List ℕ) : Type 0 where
+  pub two : 2 ≤ length sheet
+  pub few : count ≤ 120
+  pub narrow : width ≤ 32
+  pub inside : count * width ≤ 4 * (length sheet - 2)
+
+pub lengths : (width : ℕ) (rows : List Symbols) (sheet : List ℕ) → Sheet width rows sheet → Lengths width (length rows) sheet
+unfolding size_of_sheet
+lengths width rows sheet is =
+    let s = sheet_says width rows sheet is in
+    let e = s.size in
+    record { two = s.two; few = is.few; narrow = is.high; inside = omega arith }
 
 -- the rows, one by one
 module _ {sheet body : List ℕ} {places count needed : ℕ} (o : Opened sheet body places count needed) where

@@ -1,4 +1,3 @@
 pub mod Faults
 pub mod Packing
 pub mod Reading
-pub mod RoundTrips

@@ -1,8 +1,8 @@
 // Packing: rows into bytes.
-ghost use Rattle.std.specs.Prelude.{◌≡◌, length, IfOk};
+ghost use Rattle.std.specs.Prelude.{◌≡◌, true, ◌++◌, length, drop, is_err, IfOk};
 ghost use Rattle.rows.specs.Widths.{places_of};
-ghost use Rattle.sheet.specs.Faults.{cares_outside, refusal_in, pack_fault};
-ghost use Rattle.sheet.specs.Packing.{sheet_of, Packed};
+ghost use Rattle.sheet.specs.Faults.{refusal_in, rows_fault, pack_fault};
+ghost use Rattle.sheet.specs.Packing.{sheet_of};
 ghost use Rattle.sheets.specs.Format.{size_of_sheet};
 
 use super::sheet_rows::SheetRows;
@@ -13,34 +13,31 @@ use rows::width::Width;
 // The most rows on a sheet.
 pub const MOST_ROWS: usize = 120;
 
-// Writes the sheet of the rows, and answers how many bytes it has.
-#[tactic(auto, unfolding(crate::specs::Faults::pack_fault))]
-pub fn pack(width: Width, rows: &[RowWords], memory: &mut [u8]) -> Result<usize, Refusal>
-    ensures refusal { refusal_in result ≡ pack_fault (places_of width) rows.now (length memory.old) }
+// How many bytes the sheet of the rows has. Refused where packing them is, whatever the memory.
+#[tactic(auto, using(crate::proofs::Rows::sheet_length))]
+pub fn packed_size(width: Width, rows: &[RowWords]) -> Result<usize, Refusal>
+    ensures refusal { refusal_in result ≡ rows_fault (places_of width) rows.now }
     ensures size { IfOk result (λ n. n ≡ size_of_sheet (places_of width) (length rows.now)) }
-    ensures packed { Packed (sheet_of (places_of width) rows.now) memory.old memory.new result }
+    ensures sheet_length { IfOk result (λ n. n ≡ length (sheet_of (places_of width) rows.now)) }
 {
-    if any_outside(width, rows) {
-        return Err(Refusal::RowOutsideWidth);
-    }
-    if rows.len() > MOST_ROWS {
-        return Err(Refusal::TooManyRows);
-    }
-    let sheet = SheetRows { width, rows };
+    let sheet = SheetRows::of(width, rows)?;
+    Ok(sheet.size())
+}
+
+// Writes the sheet of the rows, and answers how many bytes it has.
+pub fn pack(width: Width, rows: &[RowWords], memory: &mut [u8]) -> Result<usize, Refusal>
+    ensures refusal { refusal_in result ≡
+        pack_fault (places_of width) rows.now (length memory.old) }
+    ensures size { IfOk result (λ n. n ≡ size_of_sheet (places_of width) (length rows.now)) }
+    ensures packed { IfOk result (λ n.
+        memory.new ≡ sheet_of (places_of width) rows.now ++ drop n memory.old) }
+    ensures untouched_when_refused { is_err result ≡ true → memory.new ≡ memory.old }
+{
+    let sheet = SheetRows::of(width, rows)?;
     let size = sheet.size();
     if memory.len() < size {
         return Err(Refusal::MemoryTooShort);
     }
-    for (index, byte) in memory[..size].iter_mut().enumerate() {
-        *byte = sheet.byte_at(index);
-    }
+    sheet.write(&mut memory[..size]);
     Ok(size)
-}
-
-// Whether some row cares beyond the width.
-fn any_outside(width: Width, rows: &[RowWords]) -> bool
-    ensures value { result ≡ cares_outside (places_of width) rows.now }
-{
-    let limit = width.limit();
-    rows.iter().any(|row| limit <= u64::from(row.care))
 }

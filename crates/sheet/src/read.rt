@@ -1,10 +1,13 @@
 // Reading: bytes into rows.
-ghost use Rattle.std.specs.Prelude.{◌≡◌, ◌+◌, ◌*◌, ◌/◌, ◌%◌, length};
+ghost use Rattle.std.specs.Prelude.{◌≡◌, ℕ, true, ◌≤◌, List, length, map, is_err, IfOk, IsOkAnd};
+ghost use Rattle.covers.specs.Symbols.{Symbols};
+ghost use Rattle.rows.specs.Memory.{words_of};
 ghost use Rattle.rows.specs.Widths.{places_of};
 ghost use Rattle.sheet.specs.Faults.{refusal_in, read_fault};
-ghost use Rattle.sheet.specs.Reading.{Read, Accepts};
+ghost use Rattle.sheet.specs.Reading.{HasSize, Holds, IsRead};
+ghost use Rattle.sheets.specs.Format.{Sheet};
 
-use super::pack::MOST_ROWS;
+use super::check::check;
 use super::sheet_body::SheetBody;
 use super::sheet_size::SheetSize;
 use rows::refusal::Refusal;
@@ -14,49 +17,34 @@ use rows::width::Width;
 // Writes the rows of a sheet into memory, and answers its size.
 pub fn read(bytes: &[u8], memory: &mut [RowWords]) -> Result<SheetSize, Refusal>
     ensures refusal { refusal_in result ≡ read_fault bytes.now (length memory.old) }
-    ensures rows { Read bytes.now memory.old memory.new result }
-    ensures accepts { Accepts bytes.now memory.old memory.new result }
+    ensures rows { IfOk result (λ size. IsRead bytes.now size memory.old memory.new) }
+    ensures accepts { (width : ℕ) (rows : List Symbols) → Sheet width rows bytes.now →
+        length rows ≤ length memory.old →
+        IsOkAnd result (λ size.
+        HasSize size width (length rows) × Holds rows memory.old memory.new) }
+    ensures untouched_when_refused { is_err result ≡ true → memory.new ≡ memory.old }
 {
-    let [first, second, body @ ..] = bytes else {
-        return Err(Refusal::SheetTooShort);
-    };
-    let size = header(*first, *second);
-    if size.count > MOST_ROWS {
-        return Err(Refusal::TooManyRows);
-    }
-    let places = size.width.places() as usize;
-    let symbols = size.count * places;
-    let needed = symbols.div_ceil(4);
-    if body.len() < needed {
-        return Err(Refusal::SheetTooShort);
-    }
-    let left_over = body.len() - needed;
-    let body = SheetBody {
-        bytes: body,
-        symbols,
-    };
-    if body.has_unknown() {
-        return Err(Refusal::UnknownSymbol);
-    }
-    if left_over > 0 || *second % 16 != 0 || !body.is_filled_with_zeros() {
-        return Err(Refusal::SheetNotClean);
-    }
+    let size = check(bytes)?;
     if memory.len() < size.count {
         return Err(Refusal::MemoryTooShort);
     }
-    for (index, row) in memory[..size.count].iter_mut().enumerate() {
-        *row = body.row_at(index * places, places);
-    }
+    write_rows(bytes, size.width, &mut memory[..size.count]);
     Ok(size)
 }
 
-// What the two bytes of the header say.
-fn header(first: u8, second: u8) -> SheetSize
-    ensures width { places_of result.width ≡ first / 8 + 1 }
-    ensures count { result.count ≡ first % 8 * 16 + second / 16 }
+// Writes the rows of a sheet, one to each place in memory.
+pub(super) fn write_rows(sheet: &[u8], width: Width, memory: &mut [RowWords])
+    requires sheet { (rows : List Symbols) ×
+        (Sheet (places_of width) rows sheet.now × (length memory.old ≡ length rows)) }
+    ensures rows { (rows : List Symbols) → Sheet (places_of width) rows sheet.now →
+        memory.new ≡ map words_of rows }
 {
-    SheetSize {
-        width: Width::try_from(u64::from(first / 8) + 1).unwrap(),
-        count: usize::from(first % 8) * 16 + usize::from(second / 16),
+    let places = width.places() as usize;
+    let body = SheetBody {
+        bytes: &sheet[2..],
+        symbols: memory.len() * places,
+    };
+    for (index, row) in memory.iter_mut().enumerate() {
+        *row = body.row_at(index * places, places);
     }
 }

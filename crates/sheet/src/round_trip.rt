@@ -1,12 +1,17 @@
 // There and back: nothing is lost by packing, and nothing by reading.
-ghost use Rattle.std.specs.Prelude.{◌≡◌, length};
+ghost use Rattle.std.specs.Prelude.{◌≡◌, true, ◌++◌, length, map, drop, is_err, OnOk, IfOk};
+ghost use Rattle.std.specs.Option.{option_or};
+ghost use Rattle.rows.specs.Memory.{as_made};
 ghost use Rattle.rows.specs.Widths.{places_of};
-ghost use Rattle.sheet.specs.Faults.{refusal_in, pack_fault, read_fault, room_fault, first_fault};
-ghost use Rattle.sheet.specs.Packing.{sheet_of, Packed};
-ghost use Rattle.sheet.specs.RoundTrips.{LeftByPack, LeftByRead, SameRows};
+ghost use Rattle.sheet.specs.Faults.{refusal_in, pack_fault, read_fault, room_fault};
+ghost use Rattle.sheet.specs.Packing.{sheet_of};
+ghost use Rattle.sheet.specs.Reading.{HasSize, IsRead};
+ghost use Rattle.sheet.specs.declared.sheet_size.SheetSize.{SheetSize};
+ghost use Rattle.sheets.specs.Format.{size_of_sheet};
 
-use super::pack::pack;
-use super::read::read;
+use super::check::check;
+use super::read::write_rows;
+use super::sheet_rows::SheetRows;
 use super::sheet_size::SheetSize;
 use rows::refusal::Refusal;
 use rows::row_words::RowWords;
@@ -19,12 +24,30 @@ pub fn pack_then_read(
     sheet: &mut [u8],
     back: &mut [RowWords],
 ) -> Result<SheetSize, Refusal>
-    ensures refusal { refusal_in result ≡ first_fault (pack_fault (places_of width) rows.now (length sheet.old)) (room_fault (length back.old) (length rows.now)) }
-    ensures packed { LeftByPack (pack_fault (places_of width) rows.now (length sheet.old)) (sheet_of (places_of width) rows.now) sheet.old sheet.new }
-    ensures same_rows { SameRows (places_of width) rows.now back.old back.new result }
+    ensures refusal { refusal_in result ≡
+        option_or (pack_fault (places_of width) rows.now (length sheet.old))
+        (room_fault (length back.old) (length rows.now)) }
+    ensures size { IfOk result (λ size. HasSize size (places_of width) (length rows.now)) }
+    ensures packed { OnOk result (
+        sheet.new ≡ sheet_of (places_of width) rows.now ++
+        drop (size_of_sheet (places_of width) (length rows.now)) sheet.old) }
+    ensures same_rows { OnOk result (
+        back.new ≡ map as_made rows.now ++ drop (length rows.now) back.old) }
+    ensures untouched_when_refused { is_err result ≡ true →
+        (sheet.new ≡ sheet.old) × (back.new ≡ back.old) }
 {
-    let size = pack(width, rows, sheet)?;
-    read(&sheet[..size], back)
+    let packed = SheetRows::of(width, rows)?;
+    let size = packed.size();
+    if sheet.len() < size || back.len() < rows.len() {
+        return Err(Refusal::MemoryTooShort);
+    }
+    let sheet = &mut sheet[..size];
+    packed.write(sheet);
+    write_rows(sheet, width, &mut back[..rows.len()]);
+    Ok(SheetSize {
+        width,
+        count: rows.len(),
+    })
 }
 
 // Reads the sheet into `rows`, and packs those into `again`: the same bytes.
@@ -33,10 +56,25 @@ pub fn read_then_pack(
     rows: &mut [RowWords],
     again: &mut [u8],
 ) -> Result<usize, Refusal>
-    ensures refusal { refusal_in result ≡ first_fault (read_fault sheet.now (length rows.old)) (room_fault (length again.old) (length sheet.now)) }
-    ensures read { LeftByRead (read_fault sheet.now (length rows.old)) sheet.now rows.old rows.new }
-    ensures same_bytes { Packed sheet.now again.old again.new result }
+    ensures refusal { refusal_in result ≡
+        option_or (read_fault sheet.now (length rows.old))
+        (room_fault (length again.old) (length sheet.now)) }
+    ensures size { IfOk result (λ n. n ≡ length sheet.now) }
+    ensures read { OnOk result ((size : SheetSize) × IsRead sheet.now size rows.old rows.new) }
+    ensures same_bytes { OnOk result (again.new ≡ sheet.now ++ drop (length sheet.now) again.old) }
+    ensures untouched_when_refused { is_err result ≡ true →
+        (rows.new ≡ rows.old) × (again.new ≡ again.old) }
 {
-    let size = read(sheet, rows)?;
-    pack(size.width, &rows[..size.count], again)
+    let size = check(sheet)?;
+    if rows.len() < size.count || again.len() < sheet.len() {
+        return Err(Refusal::MemoryTooShort);
+    }
+    let rows = &mut rows[..size.count];
+    write_rows(sheet, size.width, rows);
+    let packed = SheetRows {
+        width: size.width,
+        rows,
+    };
+    packed.write(&mut again[..sheet.len()]);
+    Ok(sheet.len())
 }

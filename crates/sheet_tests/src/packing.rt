@@ -6,6 +6,24 @@ use sheet::pack::pack;
 use sheet::round_trip::pack_then_read;
 use std::test::Fail;
 
+// The rows 0011, 01-- and 10-0, and their sheet at width 4
+pub(super) const ROWS: [RowWords; 3] = [
+    RowWords {
+        value: 0b0011,
+        care: 0b1111,
+    },
+    RowWords {
+        value: 0b0100,
+        care: 0b1100,
+    },
+    RowWords {
+        value: 0b1000,
+        care: 0b1101,
+    },
+];
+
+pub(super) const SHEET: [u8; 5] = [0x18, 0x30, 0x05, 0x1a, 0x48];
+
 #[test]
 fn empty_sheet_is_a_header(rt: HostRuntime) -> Result<(), Fail> {
     let mut memory = [7; 3];
@@ -17,23 +35,10 @@ fn empty_sheet_is_a_header(rt: HostRuntime) -> Result<(), Fail> {
 
 #[test]
 fn worked_example(rt: HostRuntime) -> Result<(), Fail> {
-    let rows = [
-        RowWords {
-            value: 0b0011,
-            care: 0b1111,
-        },
-        RowWords {
-            value: 0b0100,
-            care: 0b1100,
-        },
-        RowWords {
-            value: 0b1000,
-            care: 0b1101,
-        },
-    ];
     let mut memory = [7; 6];
-    assert_eq!(rt; pack(Width::try_from(4)?, &rows, &mut memory), Ok(5));
-    assert_eq!(rt; memory, [0x18, 0x30, 0x05, 0x1a, 0x48, 7]);
+    assert_eq!(rt; pack(Width::try_from(4)?, &ROWS, &mut memory), Ok(5));
+    assert_eq!(rt; &memory[..5], SHEET.as_slice());
+    assert_eq!(rt; memory[5], 7);
     Ok(())
 }
 
