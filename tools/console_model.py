@@ -1,7 +1,8 @@
 #!/usr/bin/env python3
 """An independent model of the console, over straight intervals, and the sessions that the gate replays.
 
-    python3 tools/console_model.py          checks that crates/sessions/data is what the model computes
+    python3 tools/console_model.py          checks that crates/sessions/data, and the stored input and output of
+                                            crates/receiver, are what the model computes
     python3 tools/console_model.py write    writes it anew
     python3 tools/console_model.py run      reads a session from standard input and prints what the console should
 
@@ -15,7 +16,8 @@ import sys
 from model import rows_of_run
 
 NUMBER = rb"([0-9]{1,10})"
-DATA = os.path.join(os.path.dirname(os.path.abspath(__file__)), "..", "crates", "sessions", "data")
+CRATES = os.path.join(os.path.dirname(os.path.abspath(__file__)), "..", "crates")
+DATA = os.path.join(CRATES, "sessions", "data")
 
 
 class Refused(Exception):
@@ -158,18 +160,30 @@ def sessions():
     yield "width-33", b"33 8\n? 1\n"
 
 
+def program_session():
+    """The session of the pages, lines enough for several pieces of the program's loop, and its edits once more."""
+    edits = [b"+ 1 4", b"+ 6 6", b"- 4 4"]
+    first = [b"3 8"] + edits + [b"? 6", b"? 4", b"+ 7 9"]
+    return b"\n".join(first + list(random_lines(random.Random(16), 7, 1500)) + [b"- 0 7"] + edits) + b"\n"
+
+
+def stored():
+    for name, text in sessions():
+        yield os.path.join(DATA, name + ".in"), os.path.join(DATA, name + ".out"), text
+    yield os.path.join(CRATES, "receiver", "stdin"), os.path.join(CRATES, "receiver", "stdout"), program_session()
+
+
 def main():
     if sys.argv[1:] == ["run"]:
         sys.stdout.write(output(sys.stdin.buffer.read()))
         return
     lines = 0
     refusals = set()
-    for name, text in sessions():
+    for input_path, output_path, text in stored():
         expected = output(text).encode()
         lines += text.count(b"\n")
         refusals |= set(re.findall(rb"refused (\d+)", expected))
-        for ending, content in ((".in", text), (".out", expected)):
-            path = os.path.join(DATA, name + ending)
+        for path, content in ((input_path, text), (output_path, expected)):
             if sys.argv[1:] == ["write"]:
                 with open(path, "wb") as file:
                     file.write(content)

@@ -1,10 +1,11 @@
 -- An input has one output.
 use Rattle.std.proofs.Common.{◌≡◌, ℕ, List, [], ◌∷◌, ◌++◌, Some, None, Option, sym, refl, ap, ◌∙◌, subst, ap₂}
+use Rattle.std.specs.List.{concat}
 use Rattle.lines.specs.Lines.{Means, SetsUp}
 use Rattle.lines.specs.Printed.{reply_bytes}
 use Rattle.lines.proofs.Determined.{command_determined, setup_determined}
 use Rattle.console.specs.Replies.{ReadsAs, reply_to, after_line}
-use Rattle.console.specs.Sessions.{Stage, waiting, running, stopped, setup_output, after_setup, closing, lines_of, LineAnswered, LinesAnswered}
+use Rattle.console.specs.Sessions.{Stage, waiting, running, stopped, setup_output, after_setup, closing_lines, lines_of, LineAnswered, LinesAnswered}
 use Rattle.console.specs.Theorems.{OutputDetermined}
 
 -- where at most one meets this, one is read, or none
@@ -23,7 +24,7 @@ line_determined (running c) line o p t u a b =
     (a.2 ∙ ap (λ r. reply_bytes (reply_to c r)) e ∙ sym b.2, a.3 ∙ ap (λ r. running (after_line c r)) e ∙ sym b.3)
 line_determined stopped line o p t u a b = (a.0 ∙ sym b.0, a.1 ∙ sym b.1)
 
-lines_determined : (lines : List (List ℕ)) (s : Stage) (o p : List ℕ) (t u : Stage) → LinesAnswered s lines o t → LinesAnswered s lines p u → (o ≡ p) × (t ≡ u)
+pub lines_determined : (lines : List (List ℕ)) (s : Stage) (o p : List ℕ) (t u : Stage) → LinesAnswered s lines o t → LinesAnswered s lines p u → (o ≡ p) × (t ≡ u)
 lines_determined [] s o p t u a b = (a.0 ∙ sym b.0, a.1 ∙ sym b.1)
 lines_determined (line ∷ lines) s o p t u a b =
     let one = line_determined s line a.0 b.0 a.1 b.1 a.3 b.3 in
@@ -33,4 +34,4 @@ lines_determined (line ∷ lines) s o p t u a b =
 pub output_determined : OutputDetermined
 output_determined input o p a b =
     let e = lines_determined (lines_of input) waiting a.printed b.printed a.last b.last a.answered b.answered in
-    a.all ∙ ap₂ (λ x s. x ++ closing s) e.0 e.1 ∙ sym b.all
+    a.all ∙ ap₂ (λ x s. x ++ concat (closing_lines s)) e.0 e.1 ∙ sym b.all

@@ -5,3 +5,8 @@ pub mod FirstLine
 pub mod Stages
 pub mod Bytes
 pub mod Determined
+pub mod Known
+pub mod Loops
+pub mod Few
+pub mod Exists
+pub mod Equality

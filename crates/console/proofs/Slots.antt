@@ -1,20 +1,30 @@
--- The lines of slots, one after the other.
-use Rattle.std.proofs.Common.{◌≡◌, ℕ, List, [], ◌∷◌, ◌++◌, Some, None, refl, ap, ◌∙◌, ap₂}
-use Rattle.std.specs.List.{flat_map}
+-- The line of a slot is the line of the ledger's row.
+use Rattle.std.proofs.Common.{◌≡◌, ℕ, zero, suc, ◌-◌, List, [], ◌∷◌, ◌++◌, map, length, get_or, replicate, slice_get, Some, None, sym, refl, ap, ◌∙◌, ap₂}
+use Rattle.covers.specs.Symbols.{Symbols}
+use Rattle.covers.specs.Words.{value_word, care_word, symbols}
+use Rattle.covers.proofs.RowLengths.{Long}
+use Rattle.covers.proofs.RowWords.{symbols_back, clean_word}
+use Rattle.device.specs.MadeRows.{row_made}
 use Rattle.device.specs.States.{Slot}
-use Rattle.device.specs.SymbolLaws.{rows_in}
-use Rattle.rows.specs.Memory.{symbols_of}
 use Rattle.filter.specs.Ledger.{Ledger, ledger_runs, ledger_rows}
-use Rattle.filter.specs.Placement.{placed}
-use Rattle.filter.proofs.Placed.{runs_long, rows_placed}
+use Rattle.filter.specs.Placement.{slot_with, placed}
+use Rattle.filter.proofs.Placed.{runs_long}
 use Rattle.lines.specs.Printed.{row_bytes}
-use Rattle.console.specs.Closing.{slot_bytes, rows_bytes}
+use Rattle.console.specs.Closing.{slot_line, row_lines}
 
-slots_as_rows : (n : ℕ) (slots : List Slot) → flat_map (slot_bytes n) slots ≡ rows_bytes (rows_in n slots)
-slots_as_rows n [] = refl
-slots_as_rows n (Some r ∷ slots) = ap (λ t. row_bytes (symbols_of n r) ++ t) (slots_as_rows n slots)
-slots_as_rows n (None ∷ slots) = slots_as_rows n slots
+empty_line : (n k i : ℕ) → slot_line n (get_or (replicate k None) i None) ≡ None
+empty_line n zero i = refl
+empty_line n (suc k) zero = refl
+empty_line n (suc k) (suc i) = empty_line n k i
+
+placed_line : (n k : ℕ) (rows : List Symbols) (i : ℕ) → Long n rows → slot_line n (get_or (map slot_with rows ++ replicate k None) i None) ≡ slice_get (row_lines rows) i
+unfolding row_made
+placed_line n k [] i h = empty_line n k i
+placed_line n k (r ∷ rows) zero h =
+    ap (λ s. Some (row_bytes s)) (ap (λ v. symbols n v (care_word r)) (clean_word r) ∙ ap (λ m. symbols m (value_word r) (care_word r)) (sym h.0) ∙ symbols_back r)
+placed_line n k (r ∷ rows) (suc i) h = placed_line n k rows i h.1
 
 -- the slots of a ledger's rows
-pub ledger_lines : (n : ℕ) (slots : List Slot) (b : Ledger) → n ≡ b.width → slots ≡ placed b.slots (ledger_rows b) → flat_map (slot_bytes n) slots ≡ rows_bytes (ledger_rows b)
-ledger_lines n slots b w p = slots_as_rows n slots ∙ ap rows_bytes (ap₂ rows_in w p ∙ rows_placed b.width b.slots (ledger_rows b) (runs_long b.width (ledger_runs b)))
+pub ledger_line : (n : ℕ) (slots : List Slot) (b : Ledger) (i : ℕ) → n ≡ b.width → slots ≡ placed b.slots (ledger_rows b) → slot_line n (get_or slots i None) ≡ slice_get (row_lines (ledger_rows b)) i
+ledger_line n slots b i w p =
+    ap₂ (λ m s. slot_line m (get_or s i None)) w p ∙ placed_line b.width (b.slots - length (ledger_rows b)) (ledger_rows b) i (runs_long b.width (ledger_runs b))

@@ -25,7 +25,7 @@ pub kept_line : (line : Option (Bor (List ℕ))) (given : Result (Bor (List ℕ)
 kept_line line given r text from is e = (short_kept text r.now (sym (ap (option_map (λ x. x.now)) (from ∙ ap result_ok is)) ∙ e)).0
 
 module _ (text : List ℕ) where
-  begun_ok : (stage : Stage) (c : Console ColumnTable ghosts) → StageStands Waiting stage → (setup : Option Setup) → ReadsSetup text setup → Begun setup (Ok c) → LineClosed stage text None (Running c)
+  begun_ok : (stage : Stage) (c : Console ColumnTable ghosts) → StageStands Waiting stage → (setup : Option Setup) → ReadsSetup text setup → Begun setup (Ok c) → LineClosed stage text [] (Running c)
   begun_ok waiting c k (Some s) m b = record {
     next = running (opened s.width (min 120 s.slots) 0);
     answered = (
@@ -42,16 +42,16 @@ module _ (text : List ℕ) where
 
   -- a first line starts the console
   pub first_line : (at : code.Stage) (stage : Stage) (c : Console ColumnTable ghosts) → at ≡ Waiting → StageStands at stage → (setup : Option Setup) × ReadsSetup text setup × Begun setup (Ok c) →
-      LineClosed stage text None (Running c)
+      LineClosed stage text [] (Running c)
   first_line at stage c is k b = begun_ok stage c (subst (λ a. StageStands a stage) is k) b.0 b.1 b.2
 
   -- a later line is replied to
   taken : (stage : Stage) (c after : Console ColumnTable ghosts) (r : Result Reply Refusal) → StageStands (Running c) stage → ((b : Ledger) → ConsoleStands ghosts c b → LineTaken ghosts b text r after) →
-      LineClosed stage text (Some r) (Running after)
+      LineClosed stage text (reply_bytes r) (Running after)
   taken waiting c after r k step = absurd k
   taken (running b) c after r k step = let t = step b k in record { next = running _; answered = (t.read, t.reads, ap reply_bytes t.replied, refl); stands = t.stands }
   taken stopped c after r k step = absurd k
 
   pub later_line : (at : code.Stage) (stage : Stage) (c after : Console ColumnTable ghosts) (r : Result Reply Refusal) → at ≡ Running c → StageStands at stage →
-      ((b : Ledger) → ConsoleStands ghosts c b → LineTaken ghosts b text r after) → LineClosed stage text (Some r) (Running after)
+      ((b : Ledger) → ConsoleStands ghosts c b → LineTaken ghosts b text r after) → LineClosed stage text (reply_bytes r) (Running after)
   later_line at stage c after r is k step = taken stage c after r (subst (λ a. StageStands a stage) is k) step

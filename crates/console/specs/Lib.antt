@@ -4,3 +4,4 @@ pub mod Closing
 pub mod Sessions
 pub mod Theorems
 pub mod SessionStands
+pub mod Loops

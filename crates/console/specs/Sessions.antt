@@ -1,5 +1,6 @@
 -- A whole session: the bytes that come in, the lines that they are cut into, and the bytes that are printed.
 use Rattle.std.specs.Prelude.{◌≡◌, ℕ, min, Bool, true, false, cond, ◌&&◌, List, [], ◌∷◌, ◌++◌, Some, None, Err, Option, ◌==◌, nat_le}
+use Rattle.std.specs.List.{concat}
 use Rattle.rows.specs.declared.refusal.Refusal.{Refusal}
 use Rattle.rows.specs.declared.refusal.Refusal.TheVariants.{WidthOutOfRange, MalformedLine}
 use Rattle.filter.specs.Ledger.{Ledger, opened, ledger_rows}
@@ -8,7 +9,7 @@ use Rattle.lines.specs.declared.command.Setup.{Setup}
 use Rattle.lines.specs.Lines.{SetsUp}
 use Rattle.lines.specs.Printed.{reply_bytes}
 use Rattle.console.specs.Replies.{ReadsAs, Reads, reply_to, after_line}
-use Rattle.console.specs.Closing.{rows_bytes}
+use Rattle.console.specs.Closing.{row_lines}
 
 -- a text cut at its newlines, with what stood open before it: the lines that it closes
 abbrev pub closed : List ℕ → List ℕ → List (List ℕ)
@@ -71,22 +72,22 @@ LinesAnswered stage [] output next = (output ≡ []) × (next ≡ stage)
 LinesAnswered stage (line ∷ lines) output next =
     (first : List ℕ) × (between : Stage) × (rest : List ℕ) × LineAnswered stage line first between × LinesAnswered between lines rest next × (output ≡ first ++ rest)
 
--- what is printed at the end: the rows of the ledger's runs, by the rules; without a first line, its refusal
-abbrev pub closing : Stage → List ℕ
-closing waiting = refusal_line MalformedLine
-closing (running b) = rows_bytes (ledger_rows b)
-closing stopped = []
+-- the lines that are printed at the end: the rows of the ledger's runs, by the rules; without a first line, its refusal
+abbrev pub closing_lines : Stage → List (List ℕ)
+closing_lines waiting = refusal_line MalformedLine ∷ []
+closing_lines (running b) = row_lines (ledger_rows b)
+closing_lines stopped = []
 
 -- the end of a session: the input's end may close a line, and the closing lines follow
 pub record SessionEnded (stage : Stage) (line output : List ℕ) : Type 0 where
   pub printed : List ℕ
   pub last : Stage
   pub answered : LinesAnswered stage (at_end line) printed last
-  pub all : output ≡ printed ++ closing last
+  pub all : output ≡ printed ++ concat (closing_lines last)
 
 -- the whole output for the whole input
 pub record ConsoleOutput (input output : List ℕ) : Type 0 where
   pub printed : List ℕ
   pub last : Stage
   pub answered : LinesAnswered waiting (lines_of input) printed last
-  pub all : output ≡ printed ++ closing last
+  pub all : output ≡ printed ++ concat (closing_lines last)

@@ -3,13 +3,13 @@ ghost use Rattle.std.specs.Prelude.{◌≡◌, false};
 
 use device::device::RowDevice;
 use filter::filter::Filter;
+use filter_calls::slots::slots_kept;
 use lines::command::Command;
 use lines::parse::parse_command;
-use lines::print::row_line;
+use lines::print::{PrintedLine, row_line};
 use lines::reply::Reply;
 use rows::refusal::Refusal;
 use run_table::edit::Edit;
-use std::alloc::{AllocError, Global};
 
 // The console's filter needs no tag of its own: its tokens never leave the console.
 const CONSOLE_TAG: u64 = 0;
@@ -22,12 +22,13 @@ pub struct Console<D: RowDevice> {
 }
 
 impl<D: RowDevice> Console<D> {
-    ghost use Rattle.std.specs.Prelude.{length, IfOk, string_bytes};
-    ghost use Rattle.std.specs.List.{flat_map};
+    ghost use Rattle.std.specs.Prelude.{◌≤◌, length, slice_get, slice_index_or, None};
+    ghost use Rattle.std.specs.Option.{option_map};
     ghost use Rattle.device.specs.KeptBeside.{KeptBeside};
     ghost use Rattle.filter.specs.Ledger.{Ledger, opened, edit_answer, after_hold, after_edit, after_release, ledger_rows};
     ghost use Rattle.filter.specs.Writes.{all_slots, edit_writes};
-    ghost use Rattle.console.specs.Closing.{rows_bytes, slot_bytes};
+    ghost use Rattle.filter_calls.specs.Promises.{PromiseKept};
+    ghost use Rattle.console.specs.Closing.{row_lines, slot_line};
     ghost use Rattle.console.specs.Replies.{reply_writes};
     ghost use Rattle.console.specs.StandsFor.{ConsoleStands, LineTaken};
 
@@ -68,7 +69,10 @@ impl<D: RowDevice> Console<D> {
 
     // One edit within a hold of its own.
     fn edit(&mut self, edit: Edit) -> Result<usize, Refusal>
-        ensures step { (b : Ledger) → ConsoleStands D.RowDevice self.old b → (result ≡ edit_answer (after_hold b) b.tag edit) × ConsoleStands D.RowDevice self.new (after_release (after_edit (after_hold b) b.tag edit) b.tag) }
+        ensures step { (b : Ledger) → ConsoleStands D.RowDevice self.old b →
+            (result ≡ edit_answer (after_hold b) b.tag edit)
+            × ConsoleStands D.RowDevice self.new
+            (after_release (after_edit (after_hold b) b.tag edit) b.tag) }
         ensures beside { KeptBeside D.RowDevice self.old.filter.device
             (edit_writes result (length (D.state self.old.filter.device).slots))
             self.new.filter.device }
@@ -80,19 +84,26 @@ impl<D: RowDevice> Console<D> {
         Ok(rows)
     }
 
-    // The lines of the rows in the slots, in their order.
-    pub fn rows_text(&self, heap: Global) -> Result<String, AllocError>
-        ensures slots_unless_memory_fails { IfOk result (λ s. string_bytes s ≡ flat_map (slot_bytes (D.RowDevice.state self.now.filter.device).width) (D.RowDevice.state self.now.filter.device).slots) }
-        ensures rows_unless_memory_fails { IfOk result (λ s. (b : Ledger) → ConsoleStands D.RowDevice self.now b → string_bytes s ≡ rows_bytes (ledger_rows b)) }
+    /// How many slots there are; whatever lines were obeyed before, the rows in them are right.
+    pub fn slot_count(&self) -> usize
+        ensures count { result ≡ length (D.state self.now.filter.device).slots }
+        ensures kept { (b : Ledger) → ConsoleStands D.RowDevice self.now b →
+            PromiseKept (D.state self.now.filter.device) (D.levels self.now.filter.device) b }
     {
-        let mut text = String::new(heap);
-        // A slot's row is asked for by the slot's index.
-        for slot in 0..self.filter.slot_count() {
-            if let Some(row) = self.filter.report_slot(slot).unwrap() {
-                text.push_str(row_line(heap, self.filter.width(), row)?.as_str())?;
-            }
-        }
-        Ok(text)
+        slots_kept(&self.filter)
+    }
+
+    /// The line of the row in a slot, its newline included; nothing for an empty slot, or beyond the last.
+    pub fn row_line(&self, slot: usize) -> Option<PrintedLine>
+        ensures by_device { option_map (λ line. line.bytes) result ≡
+            slot_line (D.state self.now.filter.device).width
+            (slice_index_or (D.state self.now.filter.device).slots slot None) }
+        ensures by_ledger { (b : Ledger) → ConsoleStands D.RowDevice self.now b →
+            option_map (λ line. line.bytes) result ≡ slice_get (row_lines (ledger_rows b)) slot }
+        ensures few { 120 ≤ slot → result ≡ None }
+    {
+        let row = self.filter.report_slot(slot).ok()??;
+        Some(row_line(self.filter.width(), row))
     }
 
     // Ends the console and gives the device back as it is.

@@ -2,7 +2,9 @@
 #![tactic(auto)]
 
 pub mod console;
-pub mod output;
+pub mod failure;
+pub mod help;
+pub mod run;
 pub mod session;
 mod stage;
 mod theorems;

@@ -1,22 +1,21 @@
 // A session, line by line.
-ghost use Rattle.std.specs.Prelude.{◌≡◌, ℕ, List, IfOk, string_bytes, Option as Maybe};
+ghost use Rattle.std.specs.Prelude.{◌≡◌, ℕ, ◌≤◌, List, slice_get, None, Option as Maybe};
 ghost use Rattle.std.specs.Option.{option_map};
 ghost use Rattle.device.specs.contracts.column_table.ColumnTableRowDevice.TheImpl.{ghosts};
 ghost use Rattle.filter.specs.Ledger.{Ledger};
 ghost use Rattle.lines.specs.declared.command.Setup.{Setup as SetupLine};
 ghost use Rattle.lines.specs.Buffers.{kept};
-ghost use Rattle.console.specs.Sessions.{Stage as Meaning, ReadsSetup, closing};
-ghost use Rattle.console.specs.SessionStands.{Begun, LineClosed, StageStands};
+ghost use Rattle.console.specs.Sessions.{Stage as Meaning, ReadsSetup, closing_lines};
+ghost use Rattle.console.specs.SessionStands.{Begun, LineClosed, StageStands, printed};
 ghost use Rattle.console.specs.StandsFor.{ConsoleStands, LineTaken};
 
 use super::console::Console;
 use device::column_table::ColumnTable;
 use lines::parse::parse_setup;
-use lines::print::reply_line;
+use lines::print::{PrintedLine, reply_line};
 use lines::reply::Reply;
 use rows::refusal::Refusal;
 use rows::width::Width;
-use std::alloc::{AllocError, Global};
 
 // What a session has come to: it waits for its first line, runs, or has stopped.
 #[derive(Drop)]
@@ -27,9 +26,10 @@ pub(super) enum Stage {
 }
 
 impl Stage {
-    // Takes a line, or nothing in place of one that is too long, and gives the reply to print.
-    pub(super) fn take_line(&mut self, line: Option<&[u8]>) -> Option<Result<Reply, Refusal>>
-        ensures step { (stage : Meaning) (text : List ℕ) → StageStands self.old stage → option_map (λ x. x.now) line.entry ≡ kept text → LineClosed stage text result self.new }
+    // Takes a line, or nothing in place of one that is too long, and gives the line to print, if it is answered.
+    pub(super) fn take_line(&mut self, line: Option<&[u8]>) -> Option<PrintedLine>
+        ensures step { (stage : Meaning) (text : List ℕ) → StageStands self.old stage →
+            option_map (λ x. x.now) line.entry ≡ kept text → LineClosed stage text (printed result) self.new }
     {
         match self {
             Stage::Waiting => match begin(line) {
@@ -39,29 +39,32 @@ impl Stage {
                 }
                 Err(refusal) => {
                     *self = Stage::Stopped;
-                    Some(Err(refusal))
+                    Some(reply_line(Err(refusal)))
                 }
             },
-            Stage::Running(console) => Some(answer(console, line)),
+            Stage::Running(console) => Some(reply_line(answer(console, line))),
             Stage::Stopped => None,
         }
     }
 
-    // The rows of a session that runs, or the refusal of one that never had a first line.
-    pub(super) fn closing_text(&self, heap: Global) -> Result<String, AllocError>
-        ensures closing { IfOk result (λ s. (stage : Meaning) → StageStands self.now stage → string_bytes s ≡ closing stage) }
+    // The closing line at an index: a row of a session that runs, or the refusal of one that never had a first line.
+    pub(super) fn closing_line(&self, index: usize) -> Option<PrintedLine>
+        ensures line { (stage : Meaning) → StageStands self.now stage →
+            option_map (λ line. line.bytes) result ≡ slice_get (closing_lines stage) index }
+        ensures few { 120 ≤ index → result ≡ None }
     {
         match self {
-            Stage::Waiting => reply_line(heap, Err(Refusal::MalformedLine)),
-            Stage::Running(console) => console.rows_text(heap),
-            Stage::Stopped => Ok(String::new(heap)),
+            Stage::Waiting if index == 0 => Some(reply_line(Err(Refusal::MalformedLine))),
+            Stage::Running(console) => console.row_line(index),
+            _ => None,
         }
     }
 }
 
 // The console that a first line asks for.
 fn begin(line: Option<&[u8]>) -> Result<Console<ColumnTable>, Refusal>
-    ensures begun { (text : List ℕ) → option_map (λ x. x.now) line.entry ≡ kept text → (setup : Maybe SetupLine) × ReadsSetup text setup × Begun setup result }
+    ensures begun { (text : List ℕ) → option_map (λ x. x.now) line.entry ≡ kept text →
+        (setup : Maybe SetupLine) × ReadsSetup text setup × Begun setup result }
 {
     let line = line.ok_or(Refusal::MalformedLine)?;
     let setup = parse_setup(line)?;
@@ -71,7 +74,8 @@ fn begin(line: Option<&[u8]>) -> Result<Console<ColumnTable>, Refusal>
 
 // The reply of a running console.
 fn answer(console: &mut Console<ColumnTable>, line: Option<&[u8]>) -> Result<Reply, Refusal>
-    ensures step { (b : Ledger) (text : List ℕ) → ConsoleStands ghosts console.old b → option_map (λ x. x.now) line.entry ≡ kept text → LineTaken ghosts b text result console.new }
+    ensures step { (b : Ledger) (text : List ℕ) → ConsoleStands ghosts console.old b →
+        option_map (λ x. x.now) line.entry ≡ kept text → LineTaken ghosts b text result console.new }
 {
     console.answer(line.ok_or(Refusal::MalformedLine)?)
 }

@@ -1,7 +1,8 @@
 // Lines in, and lines out.
+use console::help::{HELP, HINT};
 use lines::command::Command;
 use lines::parse::{parse_command, parse_setup};
-use lines::print::{reply_line, row_line};
+use lines::print::{MOST_PRINTED_BYTES, reply_line, row_line};
 use lines::reply::Reply;
 use rows::range::Range;
 use rows::refusal::Refusal;
@@ -49,16 +50,45 @@ fn other_lines_are_refused(rt: HostRuntime) {
 
 #[test]
 fn replies_are_printed(rt: HostRuntime) -> Result<(), Fail> {
-    let heap = rt.alloc();
-    assert_eq!(rt;
-        reply_line(heap, Ok(Reply::Rows(120)))?.as_str(),
-        "ok 120\n"
-    );
-    assert_eq!(rt; reply_line(heap, Ok(Reply::Says(true)))?.as_str(), "yes\n");
-    assert_eq!(rt; reply_line(heap, Ok(Reply::Says(false)))?.as_str(), "no\n");
-    let refused = reply_line(heap, Err(Refusal::MalformedLine))?;
+    assert_eq!(rt; reply_line(Ok(Reply::Rows(120))).as_str(), "ok 120\n");
+    assert_eq!(rt; reply_line(Ok(Reply::Says(true))).as_str(), "yes\n");
+    assert_eq!(rt; reply_line(Ok(Reply::Says(false))).as_str(), "no\n");
+    let refused = reply_line(Err(Refusal::MalformedLine));
     assert_eq!(rt; refused.as_str(), "refused 13\n");
-    let row = row_line(heap, Width::try_from(4)?, Row::new(0b0100, 0b0110))?;
+    let row = row_line(Width::try_from(4)?, Row::new(0b0100, 0b0110));
     assert_eq!(rt; row.as_str(), "-10-\n");
     Ok(())
+}
+
+// The longest row fills a printed line, and what `Display` writes is the same text.
+#[test]
+fn lines_fit_at_width_32_too(rt: HostRuntime) -> Result<(), Fail> {
+    let width = Width::try_from(32)?;
+    let row = Row::new(0x8000_0001, 0xffff_fff1);
+    let line = row_line(width, row);
+    assert_eq!(rt; line.as_str(), "1000000000000000000000000000---1\n");
+    assert_eq!(rt; line.len(), MOST_PRINTED_BYTES);
+    let shown = format!(in rt.alloc();
+        "{} {} {}",
+        row.text(width),
+        Refusal::MalformedLine,
+        Reply::Says(false)
+    )?;
+    assert_eq!(rt;
+        shown.as_str(),
+        "1000000000000000000000000000---1 refused 13 no"
+    );
+    Ok(())
+}
+
+// Each line of the help is one that the console obeys, and each refusal that it can print is named.
+#[test]
+fn the_help_names_each_line_and_each_refusal(rt: HostRuntime) {
+    let named = [
+        "W S ", "+ F L ", "- F L ", "? X ", " 1 ", " 2 ", " 6 ", " 7 ", " 13 ", "Ctrl-D",
+    ];
+    for word in named {
+        assert!(rt; HELP.contains(word));
+    }
+    assert!(rt; HINT.contains("--help"));
 }

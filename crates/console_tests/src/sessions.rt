@@ -1,10 +1,7 @@
-// Sessions, in pieces.
-use console::output::console_output;
+// Sessions, byte by byte.
 use console::session::Session;
-use std::alloc::Global;
-use std::test::Fail;
 
-// What a line that the console printed says.
+// What the last line says that was printed for some bytes.
 #[derive(Clone, Copy, PartialEq, Eq, Debug)]
 enum Heard {
     Nothing,
@@ -26,63 +23,75 @@ impl From<&str> for Heard {
     }
 }
 
-fn told(session: &mut Session, heap: Global, line: &[u8]) -> Result<Heard, Fail> {
-    Ok(Heard::from(session.answer_bytes(heap, line)?.as_str()))
+fn told(session: &mut Session, bytes: &[u8]) -> Heard {
+    let mut heard = Heard::Nothing;
+    for byte in bytes {
+        if let Some(line) = session.take_byte(*byte) {
+            heard = Heard::from(line.as_str());
+        }
+    }
+    heard
+}
+
+// The closing line at an index, or nothing beyond the last.
+fn closing_line_is(session: &Session, index: usize, expected: &str) -> bool {
+    match session.closing_line(index) {
+        Some(line) => line.as_str() == expected,
+        None => expected.is_empty(),
+    }
 }
 
 #[test]
-fn lines_are_answered_as_they_come(rt: HostRuntime) -> Result<(), Fail> {
-    let heap = rt.alloc();
+fn lines_are_answered_as_they_come(rt: HostRuntime) {
     let mut session = Session::new();
-    assert_eq!(rt; told(&mut session, heap, b"3 8\n")?, Heard::Nothing);
-    assert_eq!(rt; told(&mut session, heap, b"? 6\n")?, Heard::No);
-    assert_eq!(rt; told(&mut session, heap, b"+ 6 6\n")?, Heard::Other);
-    assert_eq!(rt; told(&mut session, heap, b"? ")?, Heard::Nothing);
-    assert_eq!(rt; told(&mut session, heap, b"6\n")?, Heard::Yes);
-    assert_eq!(rt; told(&mut session, heap, b"? 6 \n")?, Heard::Malformed);
-    assert_eq!(rt; session.end(heap)?.as_str(), "110\n");
-    Ok(())
+    assert_eq!(rt; told(&mut session, b"3 8\n"), Heard::Nothing);
+    assert_eq!(rt; told(&mut session, b"? 6\n"), Heard::No);
+    assert_eq!(rt; told(&mut session, b"+ 6 6\n"), Heard::Other);
+    assert_eq!(rt; told(&mut session, b"? "), Heard::Nothing);
+    assert_eq!(rt; told(&mut session, b"6\n"), Heard::Yes);
+    assert_eq!(rt; told(&mut session, b"? 6 \n"), Heard::Malformed);
+    assert!(rt; session.end_input().is_none());
+    assert!(rt; closing_line_is(&session, 0, "110\n"));
+    assert!(rt; closing_line_is(&session, 1, ""));
 }
 
 #[test]
-fn a_line_of_a_megabyte_is_refused_once(rt: HostRuntime) -> Result<(), Fail> {
-    let heap = rt.alloc();
+fn a_line_of_a_megabyte_is_refused_once(rt: HostRuntime) {
     let mut session = Session::new();
-    assert_eq!(rt; told(&mut session, heap, b"3 8\n")?, Heard::Nothing);
+    assert_eq!(rt; told(&mut session, b"3 8\n"), Heard::Nothing);
     let piece = [b'+'; 4096];
     for _ in 0..256 {
-        assert_eq!(rt; told(&mut session, heap, &piece)?, Heard::Nothing);
+        assert_eq!(rt; told(&mut session, &piece), Heard::Nothing);
     }
-    assert_eq!(rt; told(&mut session, heap, b"\n")?, Heard::Malformed);
-    assert_eq!(rt; told(&mut session, heap, b"? 6\n")?, Heard::No);
-    Ok(())
+    assert_eq!(rt; told(&mut session, b"\n"), Heard::Malformed);
+    assert_eq!(rt; told(&mut session, b"? 6\n"), Heard::No);
 }
 
 #[test]
-fn the_input_is_answered_alike_in_one_piece_and_in_two(rt: HostRuntime) -> Result<(), Fail> {
-    let heap = rt.alloc();
-    let whole = console_output(heap, b"3 8\n+ 1 4\n+ 6 6\n- 4 4\n? 6\n? 4\n+ 7 9\n?")?;
+fn the_end_closes_a_line_and_the_rows_follow(rt: HostRuntime) {
     let mut session = Session::new();
-    let mut text = session.answer_bytes(heap, b"3 8\n+ 1 4\n+ 6 ")?;
-    let more = session.answer_bytes(heap, b"6\n- 4 4\n? 6\n? 4\n+ 7 9\n?")?;
-    text.push_str(more.as_str())?;
-    text.push_str(session.end(heap)?.as_str())?;
-    assert_eq!(rt; text.as_str(), whole.as_str());
     assert_eq!(rt;
-        text.as_str(),
-        "ok 3\nok 4\nok 3\nyes\nno\nrefused 2\nrefused 13\n01-\n001\n110\n"
+        told(&mut session, b"3 8\n+ 1 4\n+ 6 6\n- 4 4\n? 6"),
+        Heard::Other
     );
-    Ok(())
+    let last = session.end_input();
+    assert!(rt; last.is_some_and(|line| line.as_str() == "yes\n"));
+    assert!(rt; session.end_input().is_none());
+    assert!(rt; closing_line_is(&session, 0, "01-\n"));
+    assert!(rt; closing_line_is(&session, 1, "001\n"));
+    assert!(rt; closing_line_is(&session, 2, "110\n"));
+    assert!(rt; closing_line_is(&session, 3, ""));
+    assert!(rt; closing_line_is(&session, 119, ""));
 }
 
 #[test]
-fn a_first_line_that_is_none_stops_the_console(rt: HostRuntime) -> Result<(), Fail> {
-    let heap = rt.alloc();
+fn a_first_line_that_is_none_stops_the_console(rt: HostRuntime) {
     let mut session = Session::new();
     assert!(rt; !session.has_stopped());
-    assert_eq!(rt; told(&mut session, heap, b"+ 1 4\n")?, Heard::Malformed);
+    assert!(rt; closing_line_is(&session, 0, "refused 13\n"));
+    assert!(rt; closing_line_is(&session, 1, ""));
+    assert_eq!(rt; told(&mut session, b"+ 1 4\n"), Heard::Malformed);
     assert!(rt; session.has_stopped());
-    assert_eq!(rt; told(&mut session, heap, b"3 8\n? 1\n")?, Heard::Nothing);
-    assert_eq!(rt; session.end(heap)?.as_str(), "");
-    Ok(())
+    assert_eq!(rt; told(&mut session, b"3 8\n? 1\n"), Heard::Nothing);
+    assert!(rt; closing_line_is(&session, 0, ""));
 }

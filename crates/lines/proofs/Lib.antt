@@ -3,3 +3,4 @@ pub mod Pairs
 pub mod Meanings
 pub mod Shortness
 pub mod Determined
+pub mod OneOrNone

@@ -5,7 +5,7 @@ use Rattle.std.proofs.lemmas.Str.Parse.{digit_at}
 use Rattle.std.proofs.lemmas.Bool.{cases_order}
 use Rattle.lines.specs.Numbers.{Written, WrittenPair}
 
-abbrev Spaceless : List ℕ → ℕ → Type 0
+abbrev pub Spaceless : List ℕ → ℕ → Type 0
 Spaceless text n = (k : ℕ) → k < n → get_or text k 0 ≡ 32 → ⊥
 
 module _ (text : List ℕ) (x y : ℕ) (w : WrittenPair text x y) where
@@ -34,12 +34,12 @@ module _ (text : List ℕ) (x y : ℕ) (w : WrittenPair text x y) where
       by (inr (inr h)) = absurd (none (length w.left) h at_left)
 
   -- its numbers stand before and after the first one
-  left_part : (i : ℕ) → get_or text i 0 ≡ 32 → Spaceless text i → Written (take i text) x
+  pub left_part : (i : ℕ) → get_or text i 0 ≡ 32 → Spaceless text i → Written (take i text) x
   left_part i e none =
       let same = ap (take i) w.parts ∙ take_at w.left (32 ∷ w.right) i (sym (here i e none)) in
       subst (λ t. Written t x) (sym same) w.first
 
-  right_part : (i : ℕ) → get_or text i 0 ≡ 32 → Spaceless text i → Written (take (length text - (i + 1)) (drop (i + 1) text)) y
+  pub right_part : (i : ℕ) → get_or text i 0 ≡ 32 → Spaceless text i → Written (take (length text - (i + 1)) (drop (i + 1) text)) y
   right_part i e none =
       let one = drop_more text i 0 in
       let at = drop_at w.left (32 ∷ w.right) i (sym (here i e none)) in

@@ -1,4 +1,9 @@
 // What the console replies to a line that it does not refuse.
+ghost use Rattle.std.specs.Prelude.{◌≡◌, Some};
+ghost use Rattle.lines.specs.Printed.{reply_text};
+
+use arrayvec::ArrayString;
+use itoa::Buffer;
 use std::fmt;
 
 #[derive(Clone, Copy, PartialEq, Eq, Debug)]
@@ -9,17 +14,32 @@ pub enum Reply {
     Says(bool),
 }
 
-impl fmt::Display for Reply {
-    ghost use Rattle.std.specs.Prelude.{Some};
-    ghost use Rattle.lines.specs.Printed.{reply_text};
+/// A reply as it is written, in fixed room: "ok " and at most 20 digits, "yes" or "no".
+pub type ReplyText = ArrayString<23>;
 
+impl Reply {
+    /// The reply as it is written: "ok" and the number of rows, "yes" or "no".
+    pub fn text(self) -> ReplyText
+        ensures bytes { result.bytes ≡ reply_text self }
+    {
+        let mut text = ReplyText::new();
+        match self {
+            Reply::Rows(count) => {
+                text.push_str("ok ");
+                text.push_str(Buffer::new().format(count));
+            }
+            Reply::Says(true) => text.push_str("yes"),
+            Reply::Says(false) => text.push_str("no"),
+        }
+        text
+    }
+}
+
+// The reply's text.
+impl fmt::Display for Reply {
     ghost output = { λ reply. Some (reply_text reply) };
 
     fn fmt<W: fmt::Write>(&self, f: &mut fmt::Formatter<W>) -> fmt::Result {
-        match self {
-            Reply::Rows(count) => write!(f, "ok {count}"),
-            Reply::Says(true) => write!(f, "yes"),
-            Reply::Says(false) => write!(f, "no"),
-        }
+        f.write_str(self.text().as_str())
     }
 }

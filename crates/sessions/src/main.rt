@@ -1,7 +1,7 @@
 // Sessions of the console, each beside the output that an independent model computed for it.
 #![tactic(auto)]
 
-use console::output::console_output;
+use console::run::run;
 use std::{fs, io};
 
 const SESSIONS: [&str; 14] = [
@@ -26,8 +26,12 @@ fn replay(rt: &HostRuntime, name: &str) -> io::Result<()> {
     let heap = rt.alloc();
     let input = fs::read(rt, format!(in heap; "{name}.in")?)?;
     let expected = fs::read(rt, format!(in heap; "{name}.out")?)?;
-    let output = console_output(heap, input.as_slice())?;
-    let verdict = if output.as_bytes() == expected.as_slice() {
+    let mut unread = input.as_slice();
+    let mut output = Vec::new(heap);
+    if let Err(failure) = run(&mut unread, &mut output) {
+        return println!(rt; "{name}: {failure}");
+    }
+    let verdict = if output.as_slice() == expected.as_slice() {
         "as the model says"
     } else {
         "NOT as the model says"

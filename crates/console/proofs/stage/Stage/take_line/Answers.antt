@@ -1,3 +1,6 @@
+use Rattle.std.proofs.Common.{sym, subst}
+use Rattle.console.specs.SessionStands.{LineClosed}
+use Rattle.console.specs.declared.stage.Stage.TheVariants.{Running}
 use Rattle.console.proofs.Stages.{first_line, later_line}
 use Rattle.console.proofs.stage.Stage.take_line.Goals as goal
 
@@ -7,5 +10,6 @@ returns-in-Ok c = record { step = λ stage text k e. first_line text c.args.self
 pub returns-in-Running : goal.returns-in-Running
 returns-in-Running c = record {
   step = λ stage text k e.
-      later_line text c.args.self.now stage c.in-Running.console c.answer.new.console c.answer.result c.in-Running.is k (λ b s. c.answer.ensures.step b text s e);
+      subst (λ t. LineClosed stage text t (Running c.answer.new.console)) (sym c.reply_line-in-Running.ensures.bytes)
+      (later_line text c.args.self.now stage c.in-Running.console c.answer.new.console c.answer.result c.in-Running.is k (λ b s. c.answer.ensures.step b text s e));
 }
