@@ -1,5 +1,6 @@
 // The memory that the public types take.
 use console::console::Console;
+use console::failure::Failure;
 use console::session::Session;
 use covers::symbol::Symbol;
 use device::call::{DeviceAnswer, DeviceCall, DeviceExchange};
@@ -16,11 +17,11 @@ use layers::layer::Layer;
 use layers::turn::Turn;
 use lines::command::{Command, Setup};
 use lines::line_buffer::LineBuffer;
-use lines::reply::Reply;
+use lines::print::PrintedLine;
+use lines::reply::{Reply, ReplyText};
 use rows::range::Range;
 use rows::refusal::Refusal;
-use rows::row::Row;
-use rows::row_text::RowText;
+use rows::row::{Row, RowText};
 use rows::row_words::RowWords;
 use rows::width::Width;
 use run_table::edit::Edit;
@@ -52,7 +53,7 @@ fn of_rows() -> [(&'static str, usize); 8] {
         ("Range", size_of::<Range>()),
         ("Row", size_of::<Row>()),
         ("RowWords, a row in memory", size_of::<RowWords>()),
-        ("RowText, a row to be printed", size_of::<RowText>()),
+        ("RowText, a row as it is written", size_of::<RowText>()),
         ("SheetSize", size_of::<SheetSize>()),
     ]
 }
@@ -104,11 +105,14 @@ fn of_filters() -> [(&'static str, usize); 12] {
     ]
 }
 
-fn of_the_console() -> [(&'static str, usize); 6] {
+fn of_the_console() -> [(&'static str, usize); 9] {
     [
         ("Command", size_of::<Command>()),
         ("Setup", size_of::<Setup>()),
         ("Reply", size_of::<Reply>()),
+        ("ReplyText", size_of::<ReplyText>()),
+        ("PrintedLine", size_of::<PrintedLine>()),
+        ("Failure", size_of::<Failure>()),
         ("LineBuffer", size_of::<LineBuffer>()),
         (
             "Console over a column table",

@@ -20,7 +20,7 @@ impl fmt::Display for ShownSlot {
 
     fn fmt<W: fmt::Write>(&self, f: &mut fmt::Formatter<W>) -> fmt::Result {
         match self.held {
-            Some(row) => write!(f, " {}", row.at(self.width)),
+            Some(row) => write!(f, " {}", row.text(self.width)),
             None => write!(f, " empty"),
         }
     }

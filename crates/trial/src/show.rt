@@ -14,7 +14,7 @@ pub(super) struct ShownRows<'a> {
 impl fmt::Display for ShownRows<'_> {
     fn fmt<W: fmt::Write>(&self, f: &mut fmt::Formatter<W>) -> fmt::Result {
         for words in self.rows.iter().take(4) {
-            write!(f, " {}", Row::from(*words).at(self.width))?;
+            write!(f, " {}", Row::from(*words).text(self.width))?;
         }
         if self.rows.len() > 4 {
             let more = self.rows.len() - 4;

@@ -40,7 +40,7 @@ impl fmt::Display for Witnessed {
         let places = self.width.places() as usize;
         let pairs = self.rows.iter().zip(self.numbers.iter());
         for (words, number) in pairs.take(self.count) {
-            let row = Row::from(*words).at(self.width);
+            let row = Row::from(*words).text(self.width);
             write!(f, " {row}/{number:0places$b}")?;
         }
         Ok(())
