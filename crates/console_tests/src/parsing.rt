@@ -1,4 +1,5 @@
 // Lines in, and lines out.
+use console::failure::Failure;
 use console::help::{HELP, HINT};
 use lines::command::Command;
 use lines::parse::{parse_command, parse_setup};
@@ -8,6 +9,7 @@ use rows::range::Range;
 use rows::refusal::Refusal;
 use rows::row::Row;
 use rows::width::Width;
+use std::io::ErrorKind;
 use std::test::Fail;
 
 #[test]
@@ -81,14 +83,41 @@ fn lines_fit_at_width_32_too(rt: HostRuntime) -> Result<(), Fail> {
     Ok(())
 }
 
-// Each line of the help is one that the console obeys, and each refusal that it can print is named.
 #[test]
 fn the_help_names_each_line_and_each_refusal(rt: HostRuntime) {
     let named = [
-        "W S ", "+ F L ", "- F L ", "? X ", " 1 ", " 2 ", " 6 ", " 7 ", " 13 ", "Ctrl-D",
+        "\n  W S ",
+        "\n  + F L ",
+        "\n  - F L ",
+        "\n  ? X ",
+        "\n   1   W is not from 1 to 32\n",
+        "\n   2   a number needs more than W digits\n",
+        "\n   6   the held numbers would be more than 16 separate ranges\n",
+        "\n   7   their rows would be more than S\n",
+        "\n  13   this is no line of these, or it has over 64 bytes\n",
     ];
-    for word in named {
-        assert!(rt; HELP.contains(word));
+    for line in named {
+        assert!(rt; HELP.contains(line));
     }
     assert!(rt; HINT.contains("--help"));
+}
+
+#[test]
+fn failures_are_plain_sentences(rt: HostRuntime) -> Result<(), Fail> {
+    let told = [
+        (
+            Failure::CannotRead(ErrorKind::IsADirectory),
+            "cannot read: is a directory",
+        ),
+        (
+            Failure::CannotWrite(ErrorKind::BrokenPipe),
+            "cannot write: broken pipe",
+        ),
+        (Failure::TooManyTries, "gave up after too many tries"),
+    ];
+    for (failure, sentence) in told {
+        let text = format!(in rt.alloc(); "{failure}")?;
+        assert_eq!(rt; text.as_str(), sentence);
+    }
+    Ok(())
 }
