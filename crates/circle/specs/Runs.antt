@@ -1,6 +1,8 @@
 -- The runs of a set of numbers on the circle of 2 ^ n numbers, on which 0 follows 2 ^ n - 1.
 use Rattle.std.specs.Prelude.{ℕ, zero, suc, ◌+◌, ◌-◌, ◌%◌, ◌^◌, Bool, true, cond, not, ◌&&◌, List, [], ◌∷◌, ◌++◌, map, length, Some, None, Option, nat_lt, slice_index_or}
 use Rattle.covers.specs.Rivals.{NumberSet}
+use Rattle.covers.specs.Rules.{rows_of_runs}
+use Rattle.covers.specs.Symbols.{Symbols}
 
 -- the neighbours of x on the circle; `covers/specs/WitnessNumbers` has them in other sums, on which its proofs stand
 abbrev pub before : ℕ → ℕ → ℕ
@@ -44,6 +46,10 @@ last_from n S f = climb (2 ^ n) n S f
 -- and otherwise one begins at each number of the set that follows a number outside it
 unfoldable pub runs : ℕ → NumberSet → List (ℕ × ℕ)
 runs n S = cond (whole n S) ((0, 2 ^ n - 1) ∷ []) (map (λ f. (f, last_from n S f)) (passing (begins n S) (2 ^ n)))
+
+-- the list of a set: those of its runs, one after the other
+abbrev pub rows_of_set : ℕ → NumberSet → List Symbols
+rows_of_set n S = rows_of_runs n (runs n S)
 
 -- both ends of the run at an index, or nothing beyond the last
 abbrev pub run_at : List (ℕ × ℕ) → ℕ → Option (ℕ × ℕ)

@@ -4,7 +4,7 @@ use Rattle.std.specs.List.{AllByRecursion}
 use Rattle.covers.specs.Rules.{rows_of_runs}
 use Rattle.covers.specs.Rivals.{NumberSet, in_range, in_ranges, Pairs, TakesPrecisely, Shortest, Within}
 use Rattle.covers.specs.Theorems.{Run}
-use Rattle.circle.specs.Runs.{before, after, begins, ends, last_from, runs}
+use Rattle.circle.specs.Runs.{before, after, begins, ends, last_from, rows_of_set, runs}
 
 -- every number from f up the circle to l is in the set, and the number after l is not
 pub record Stretch (n : ℕ) (S : NumberSet) (f l : ℕ) : Type 0 where
@@ -72,8 +72,10 @@ abbrev pub UntouchedBounded : Type 0
 UntouchedBounded = (n : ℕ) (ranges : List (ℕ × ℕ)) → AllByRecursion (λ r. Run n r.0 r.1) ranges → Untouched n ranges →
     Within (length ranges) n (rows_of_runs n ranges)
 
--- the rows of k runs take just the set and are at most 2 · k times those of any rival; those of one run are the fewest
+-- the rows of k runs take just the set and are at most 2 · k times those of any rival; those of one run are the fewest; each has
+-- as many symbols as the width has digits
 pub record RowsOfRuns : Type 0 where
-  pub exact : (n : ℕ) (S : NumberSet) → TakesPrecisely n (rows_of_runs n (runs n S)) S
-  pub bounded : (n : ℕ) (S : NumberSet) → Within (length (runs n S)) n (rows_of_runs n (runs n S))
-  pub shortest : (n : ℕ) (S : NumberSet) → length (runs n S) ≡ 1 → Shortest n (rows_of_runs n (runs n S))
+  pub of_width : (n : ℕ) (S : NumberSet) → AllByRecursion (λ row. length row ≡ n) (rows_of_set n S)
+  pub exact : (n : ℕ) (S : NumberSet) → TakesPrecisely n (rows_of_set n S) S
+  pub bounded : (n : ℕ) (S : NumberSet) → Within (length (runs n S)) n (rows_of_set n S)
+  pub shortest : (n : ℕ) (S : NumberSet) → length (runs n S) ≡ 1 → Shortest n (rows_of_set n S)

@@ -14,6 +14,7 @@ pub mod Narrowest
 pub mod Exactness
 pub mod Shortness
 pub mod RowWords
+pub mod Digitwise
 pub mod NarrowestWords
 pub mod RowLengths
 pub mod RowCounts

@@ -9,6 +9,7 @@ mod tests {
     use covers::symbol::Symbol;
     use covers::theorems::worked_examples;
     use ranges::range::{MOST_ROWS, rows_of_range};
+    use ranges::runs::rows_of_runs;
     use rows::range::Range;
     use rows::refusal::Refusal;
     use rows::row::Row;
@@ -130,6 +131,43 @@ mod tests {
         );
         assert_eq!(rt; memory[0], OLD);
         assert_eq!(rt; memory[1], OLD);
+        Ok(())
+    }
+
+    #[test]
+    fn rows_of_several_runs(rt: HostRuntime) -> Result<(), Fail> {
+        let width = Width::try_from(3)?;
+        let runs = [Range::new(1, 2), Range::new(4, 5)];
+        let rows = rows_of_runs(width, &runs, 3)?;
+        assert_eq!(rt; rows.len(), 3);
+        assert_eq!(rt; rows[0], RowWords { value: 1, care: 7 });
+        assert_eq!(rt; rows[1], RowWords { value: 2, care: 7 });
+        assert_eq!(rt; rows[2], RowWords { value: 4, care: 6 });
+        assert_eq!(rt; rows_of_runs(width, &runs[0..0], 0)?.len(), 0);
+        // first just above last: the whole circle
+        assert_eq!(rt; rows_of_runs(width, &[Range::new(5, 4)], 1)?.len(), 1);
+        Ok(())
+    }
+
+    #[test]
+    fn runs_are_refused(rt: HostRuntime) -> Result<(), Fail> {
+        let width = Width::try_from(3)?;
+        let too_many = rows_of_runs(width, &[Range::new(1, 2), Range::new(4, 5)], 2).err();
+        assert_eq!(rt; too_many, Some(Refusal::TooManyRows));
+        // the end outside comes first, though the rows of the earlier run do not fit either
+        let outside = rows_of_runs(width, &[Range::new(1, 2), Range::new(4, 8)], 1).err();
+        assert_eq!(rt; outside, Some(Refusal::NumberOutsideWidth));
+        Ok(())
+    }
+
+    // 1 to 2 ^ 32 - 2 has 32 rows: three such lists are 96 rows, and four are more than a device has slots.
+    #[test]
+    fn no_more_rows_than_slots(rt: HostRuntime) -> Result<(), Fail> {
+        let width = Width::try_from(32)?;
+        let runs = [Range::new(1, width.limit() - 2); 4];
+        assert_eq!(rt; rows_of_runs(width, &runs[0..3], usize::MAX)?.len(), 96);
+        let too_many = rows_of_runs(width, &runs, usize::MAX).err();
+        assert_eq!(rt; too_many, Some(Refusal::TooManyRows));
         Ok(())
     }
 }
