@@ -7,3 +7,4 @@ pub mod AcrossLists
 pub mod RunLists
 pub mod BesideLists
 pub mod FromZero
+pub mod SeveralLists

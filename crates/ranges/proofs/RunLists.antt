@@ -1,11 +1,11 @@
 -- The lists of straight runs and of runs that go round, as words behind a front.
-use Rattle.std.proofs.Common.{◌≡◌, ℕ, zero, suc, ◌+◌, ◌-◌, ◌*◌, ◌/◌, ◌%◌, ◌^◌, ◌<◌, ◌≤◌, Bool, true, false, cond, not, List, [], ◌∷◌, ◌++◌, map, length, take, Ok, sym, subst, refl, ap, ◌∙◌, ap₂, inl, inr, add_assoc, mod-lt, add-mul, zero-add, arith, pow_pos, pow_mono, pow-add}
+use Rattle.std.proofs.Common.{◌≡◌, ℕ, zero, suc, ◌+◌, ◌-◌, ◌*◌, ◌/◌, ◌%◌, ◌^◌, ◌<◌, ◌≤◌, Bool, true, false, cond, not, List, [], ◌∷◌, ◌++◌, map, length, take, Ok, sym, subst, refl, ap, ◌∙◌, ap₂, ltb, inl, inr, add_assoc, mod-lt, add-mul, zero-add, arith, pow_pos, pow_mono, pow-add}
 use Rattle.std.specs.List.{AllByRecursion}
 use lib.Arith.{digits_lt}
 use lib.Bits.{bit_and, bit_xor, xor_shr, xor_self, xor_assoc, xor_zero_l, xor_zero_r, xor_lt}
 use Rattle.std.proofs.lemmas.Nat.{shr_split, shr_below, div_below, le-div, xor_mod}
 use Rattle.std.proofs.lemmas.List.{length-map, take_at}
-use Rattle.std.proofs.lemmas.Bool.{cases_lt, lt-ltb, le-leb}
+use Rattle.std.proofs.lemmas.Bool.{and_parts, cases_lt, le-leb, lt-ltb, ltb-true}
 use Rattle.covers.specs.declared.symbol.Symbol.TheVariants.{Zero, One, Dash}
 use Rattle.covers.specs.Digits.{digit}
 use Rattle.covers.specs.RuleEquations.{plain}
@@ -22,7 +22,7 @@ use Rattle.ranges.specs.declared.lead.Lead.{Lead}
 use Rattle.ranges.specs.declared.ends.Ends.{Ends}
 use Rattle.ranges.specs.declared.stretch.Stretch.{Stretch}
 use Rattle.ranges.specs.Building.{behind_words, behind_front, behind_lead, across_rows, straight_words, round_words, stretch_words, Extended, Begun, Split, Parted, EndsOf, Alone}
-use Rattle.rows.specs.Memory.{words_of}
+use Rattle.rows.specs.Memory.{rows_of, words_of}
 use Rattle.rows.specs.Widths.{in_width}
 use Rattle.ranges.specs.RangeRows.{range_answer, rows_in}
 use Rattle.ranges.proofs.Fronts.{symbol, same_words, extended_row, extended_rows, digit_behind, at_place}
@@ -264,15 +264,18 @@ pub words_clean : (n : ℕ) (rows : List Symbols) → Long n rows → AllByRecur
 words_clean n rows h = all_map words_of (λ w. bit_and w.value w.care ≡ w.value) (λ r e. clean_word r) rows h
 
 -- rows that stand in memory are read back
+pub words_read : (n : ℕ) (rows : List Symbols) → Long n rows → rows_of n (map words_of rows) ≡ rows
+words_read n [] h = refl
+words_read n (r ∷ rows) h =
+    ap₂ (λ (q : Symbols) (l : List Symbols). q ∷ l)
+    (ap (λ v. symbols n v (care_word r)) (clean_word r) ∙ ap (λ m. symbols m (value_word r) (care_word r)) (sym h.0) ∙ symbols_back r) (words_read n rows h.1)
+
 pub rows_read : (n : ℕ) (rows : List Symbols) (rest : List RowWords) (k : ℕ) → Long n rows → k ≡ length rows → rows_in n k (map words_of rows ++ rest) ≡ rows
-rows_read n rows rest k h e =
-    ap (map (λ w. symbols n (bit_and w.value w.care) w.care)) (first_rows rows rest k e) ∙ back rows h
-  where
-    back : (rows : List Symbols) → Long n rows → map (λ w. symbols n (bit_and w.value w.care) w.care) (map words_of rows) ≡ rows
-    back [] h = refl
-    back (r ∷ rows) h =
-        ap₂ (λ (q : Symbols) (l : List Symbols). q ∷ l)
-        (ap (λ v. symbols n v (care_word r)) (clean_word r) ∙ ap (λ m. symbols m (value_word r) (care_word r)) (sym h.0) ∙ symbols_back r) (back rows h.1)
+rows_read n rows rest k h e = ap (rows_of n) (first_rows rows rest k e) ∙ words_read n rows h
+
+-- ends within the width are numbers of it
+pub within_fit : (n f l : ℕ) → in_width n f l ≡ true → (f < 2 ^ n) × (l < 2 ^ n)
+within_fit n f l w = let p = and_parts (ltb f (2 ^ n)) (ltb l (2 ^ n)) w in (ltb-true f (2 ^ n) p.0, ltb-true l (2 ^ n) p.1)
 
 -- the ends of a range are numbers of the width
 module _ {n f l : ℕ} {ends : Ends} (of : EndsOf n f l ends) where

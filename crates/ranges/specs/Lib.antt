@@ -1,3 +1,4 @@
 pub mod RangeRows
 pub mod FromZero
+pub mod SeveralRanges
 pub mod Building

@@ -1,4 +1,4 @@
-// The rows of a range, and its witness.
+// The rows of a range and of several runs, and the witness of a range.
 #![tactic(auto)]
 
 mod across;
@@ -10,6 +10,7 @@ mod lead;
 mod lists;
 mod memory;
 pub mod range;
+pub mod runs;
 mod stretch;
 mod theorems;
 mod turned;

@@ -6,13 +6,13 @@ ghost use Rattle.covers.specs.Rules.{most_rows, rows_of_range};
 ghost use Rattle.rows.specs.Memory.{words_of};
 ghost use Rattle.rows.specs.declared.refusal.Refusal.TheVariants.{MemoryTooShort};
 ghost use Rattle.ranges.specs.FromZero.{rows_below};
-ghost use Rattle.ranges.specs.RangeRows.{range_answer, rows_in};
+ghost use Rattle.ranges.specs.RangeRows.{ListMade, range_answer, rows_in};
 ghost use Rattle.rows.specs.Widths.{places_of};
 
 use super::ends::Ends;
+use super::lists::RowList;
 use super::memory::hand_over;
 use super::stretch::Stretch;
-use arrayvec::ArrayVec;
 use rows::range::Range;
 use rows::refusal::Refusal;
 use rows::row_words::RowWords;
@@ -41,8 +41,16 @@ pub fn rows_of_range(width: Width, range: Range, memory: &mut [RowWords]) -> Res
     ensures exact { IfOk result (λ k. TakesPrecisely (places_of width) (rows_in (places_of width) k memory.new) (in_range range.first range.last)) }
     ensures shortest { IfOk result (λ k. Shortest (places_of width) (rows_in (places_of width) k memory.new)) }
 {
-    let ends = Ends::of(width, range)?;
-    let mut rows = ArrayVec::new();
-    Stretch::of(ends.run()).write(&mut rows);
+    let rows = list_of_range(width, range)?;
     hand_over(&rows, memory)
+}
+
+// The rows of the range; refused if an end is no number of the width.
+pub(super) fn list_of_range(width: Width, range: Range) -> Result<RowList, Refusal>
+    ensures made { ListMade (places_of width) range.first range.last result }
+{
+    let ends = Ends::of(width, range)?;
+    let mut rows = RowList::new();
+    Stretch::of(ends.run()).write(&mut rows);
+    Ok(rows)
 }

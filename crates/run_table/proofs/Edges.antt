@@ -6,9 +6,9 @@ use Rattle.circle.specs.Runs.{before, after, begins, ends, passing, whole, last_
 use Rattle.circle.proofs.Ascending.{In, passing_has, whole_true}
 use Rattle.circle.proofs.Circle.{before_fits, after_fits, before_cases, after_cases, ahead, ahead_fits, ahead_self, ahead_same, no_step, ahead_before, ahead_after, in_range_le, le_in_range}
 use Rattle.circle.proofs.Stretches.{begins_in, begins_out, begins_from, ends_in, ends_out, ends_from, only_last, begin_of}
-use Rattle.run_table.specs.declared.edit.Edit.{Edit}
-use Rattle.run_table.specs.declared.edit.Edit.TheVariants.{Add, Drop}
-use Rattle.run_table.specs.Edits.{edited, edit_in_width}
+use Rattle.rows.specs.declared.edit.Edit.{Edit}
+use Rattle.rows.specs.declared.edit.Edit.TheVariants.{Add, Drop}
+use Rattle.rows.specs.Edits.{edited, edit_in_width}
 use Rattle.run_table.specs.NewRuns.{first_candidate, last_candidate}
 
 pub ends_fit : (n f l : ℕ) → (ltb f (2 ^ n) && ltb l (2 ^ n)) ≡ true → (f < 2 ^ n) × (l < 2 ^ n)

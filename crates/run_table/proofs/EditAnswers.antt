@@ -5,11 +5,12 @@ use Rattle.covers.specs.Rivals.{NumberSet}
 use Rattle.circle.specs.Runs.{begins, runs}
 use Rattle.rows.specs.declared.refusal.Refusal.TheVariants.{TooManyRuns}
 use Rattle.rows.specs.declared.range.Range.{Range}
-use Rattle.run_table.specs.declared.edit.Edit.{Edit}
+use Rattle.rows.specs.declared.edit.Edit.{Edit}
 use Rattle.run_table.specs.declared.table.RunTable.{RunTable}
-use Rattle.run_table.specs.Tables.{ranges_of, table_runs}
-use Rattle.run_table.specs.Edits.{edit_in_width, edited}
-use Rattle.run_table.specs.NewRuns.{adding, below_and_above, first_candidate, firsts_left, firsts_of, new_lasts, new_runs, run_from, set_after}
+use Rattle.rows.specs.Ranges.{ranges_of}
+use Rattle.run_table.specs.Tables.{table_runs}
+use Rattle.rows.specs.Edits.{adding, edit_in_width, edited}
+use Rattle.run_table.specs.NewRuns.{below_and_above, first_candidate, firsts_left, firsts_of, new_lasts, new_runs, run_from, set_after}
 use Rattle.run_table.specs.Answers.{EditAnswered}
 use Rattle.run_table.proofs.EditedRuns.{firsts_same, whole_after, runs_after}
 use Rattle.run_table.proofs.Tables.{table_few}

@@ -12,11 +12,11 @@ use Rattle.circle.proofs.Circle.{before_fits}
 use Rattle.circle.proofs.Stretches.{begins_out}
 use Rattle.circle.proofs.Runs.{are_runs, runs_of_circle, runs_of_candidates, all_or_none, equal_sets}
 use Rattle.rows.specs.declared.range.Range.{Range}
-use Rattle.run_table.specs.declared.edit.Edit.{Edit}
-use Rattle.run_table.specs.declared.edit.Edit.TheVariants.{Add, Drop}
-use Rattle.run_table.specs.Tables.{ranges_of}
-use Rattle.run_table.specs.Edits.{edit_in_width, edited}
-use Rattle.run_table.specs.NewRuns.{adding, below_and_above, first_candidate, firsts_of, lasts_of, new_lasts, new_runs, run_from, set_after, steps_to_end}
+use Rattle.rows.specs.declared.edit.Edit.{Edit}
+use Rattle.rows.specs.declared.edit.Edit.TheVariants.{Add, Drop}
+use Rattle.rows.specs.Ranges.{ranges_of}
+use Rattle.rows.specs.Edits.{adding, edit_in_width, edited}
+use Rattle.run_table.specs.NewRuns.{below_and_above, first_candidate, firsts_of, lasts_of, new_lasts, new_runs, run_from, set_after, steps_to_end}
 use Rattle.run_table.proofs.Edges.{ends_fit, first_inside, begin_listed, end_listed, new_begin, new_end, first_candidate_fits, last_candidate_fits, edited_same}
 use Rattle.run_table.proofs.Candidates.{has_from_in, candidates_ascend, candidates_below, new_in, old_in}
 use Rattle.run_table.proofs.Nearest.{nearest_end}

@@ -6,4 +6,3 @@ pub mod EditedRuns
 pub mod Tables
 pub mod Writing
 pub mod EditAnswers
-pub mod TableRows

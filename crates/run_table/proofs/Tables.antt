@@ -7,7 +7,8 @@ use Rattle.circle.specs.Runs.{runs}
 use Rattle.circle.proofs.Runs.{are_runs, determined, runs_of_circle}
 use Rattle.rows.specs.declared.range.Range.{Range}
 use Rattle.run_table.specs.declared.table.RunTable.{RunTable}
-use Rattle.run_table.specs.Tables.{TableOf, ranges_of, standing, table_runs}
+use Rattle.rows.specs.Ranges.{ranges_of}
+use Rattle.run_table.specs.Tables.{TableOf, standing, table_runs}
 
 -- at most 16 entries stand
 pub standing_few : (t : RunTable) → length (standing t) ≤ 16
@@ -19,10 +20,6 @@ table_length t = length-map (standing t) (λ r. (r.first, r.last))
 
 pub table_few : (t : RunTable) → length (table_runs t) ≤ 16
 table_few t = let e = table_length t in let h = standing_few t in omega arith
-
--- the default of a read
-abbrev pub no_run : Range
-no_run = record { first = 0; last = 0 }
 
 -- whether one of the runs has a number
 pub any_in_ranges : (R : List Range) (x : ℕ) → list_any (λ r. in_range r.first r.last x) R ≡ in_ranges (ranges_of R) x

@@ -4,10 +4,10 @@ use Rattle.std.proofs.lemmas.List.Elements.{filter-append, filter_more}
 use Rattle.std.proofs.lemmas.List.{append-nil, append_assoc, length-append, length-map, length_push, get_or-map, map-append, length-take, take_all, take-append-drop}
 use Rattle.circle.specs.Runs.{begins}
 use Rattle.rows.specs.declared.range.Range.{Range}
-use Rattle.run_table.specs.declared.edit.Edit.{Edit}
+use Rattle.rows.specs.declared.edit.Edit.{Edit}
 use Rattle.run_table.specs.NewRuns.{firsts_of, new_lasts, run_from, runs_at, set_after}
 use Rattle.run_table.proofs.Candidates.{not_both}
-use Rattle.run_table.proofs.Tables.{no_run}
+use Rattle.rows.proofs.Ranges.{no_range}
 
 -- how many a filter keeps
 pub kept_few : (p : ℕ → Bool) (l : List ℕ) → length (filter p l) ≤ length l
@@ -39,18 +39,18 @@ module _ (n : ℕ) (e : Edit) (R : List Range) where
 
 -- a filter, one element on
 module _ (p : ℕ → Bool) (R : List Range) (i : ℕ) (h : i < length R) where
-  at_first : get_or (firsts_of R) i 0 ≡ (get_or R i no_run).first
-  at_first = get_or-map (λ r. r.first) R i no_run 0 h
+  at_first : get_or (firsts_of R) i 0 ≡ (get_or R i no_range).first
+  at_first = get_or-map (λ r. r.first) R i no_range 0 h
 
   inside : i < length (firsts_of R)
   inside = let e = length-map R (λ r. r.first) in omega arith
 
-  pub filter_takes : p (get_or R i no_run).first ≡ true → filter p (take (i + 1) (firsts_of R)) ≡ filter p (take i (firsts_of R)) ++ (get_or R i no_run).first ∷ []
+  pub filter_takes : p (get_or R i no_range).first ≡ true → filter p (take (i + 1) (firsts_of R)) ≡ filter p (take i (firsts_of R)) ++ (get_or R i no_range).first ∷ []
   filter_takes b =
       filter_more p (firsts_of R) i 0 inside ∙
       ap₂ (λ (t : Bool) (x : ℕ). filter p (take i (firsts_of R)) ++ cond t (x ∷ []) []) (ap p at_first ∙ b) at_first
 
-  pub filter_leaves : p (get_or R i no_run).first ≡ false → filter p (take (i + 1) (firsts_of R)) ≡ filter p (take i (firsts_of R))
+  pub filter_leaves : p (get_or R i no_range).first ≡ false → filter p (take (i + 1) (firsts_of R)) ≡ filter p (take i (firsts_of R))
   filter_leaves b =
       filter_more p (firsts_of R) i 0 inside ∙
       ap (λ (t : Bool). filter p (take i (firsts_of R)) ++ cond t (get_or (firsts_of R) i 0 ∷ []) []) (ap p at_first ∙ b) ∙
@@ -90,17 +90,17 @@ module _ (x : ℕ) (R : List Range) where
       let m = length-map R (λ r. r.first) in
       omega arith
 
-  pub so_far_takes : (i : ℕ) → i < length R → ltb x (get_or R i no_run).first ≡ true → so_far (i + 1) ≡ so_far i ++ (get_or R i no_run).first ∷ []
+  pub so_far_takes : (i : ℕ) → i < length R → ltb x (get_or R i no_range).first ≡ true → so_far (i + 1) ≡ so_far i ++ (get_or R i no_range).first ∷ []
   so_far_takes i h b =
       ap (λ k. filter (λ f. ltb f x) (firsts_of R) ++ x ∷ k) (filter_takes (λ f. ltb x f) R i h b) ∙
-      sym (append_assoc (filter (λ f. ltb f x) (firsts_of R)) (x ∷ filter (λ f. ltb x f) (take i (firsts_of R))) ((get_or R i no_run).first ∷ []))
+      sym (append_assoc (filter (λ f. ltb f x) (firsts_of R)) (x ∷ filter (λ f. ltb x f) (take i (firsts_of R))) ((get_or R i no_range).first ∷ []))
 
-  pub so_far_leaves : (i : ℕ) → i < length R → ltb x (get_or R i no_run).first ≡ false → so_far (i + 1) ≡ so_far i
+  pub so_far_leaves : (i : ℕ) → i < length R → ltb x (get_or R i no_range).first ≡ false → so_far (i + 1) ≡ so_far i
   so_far_leaves i h b = ap (λ k. filter (λ f. ltb f x) (firsts_of R) ++ x ∷ k) (filter_leaves (λ f. ltb x f) R i h b)
 
   -- before one that is taken there is room for it
-  pub so_far_room : (i : ℕ) → i < length R → ltb x (get_or R i no_run).first ≡ true → length (so_far i) ≤ length R
+  pub so_far_room : (i : ℕ) → i < length R → ltb x (get_or R i no_range).first ≡ true → length (so_far i) ≤ length R
   so_far_room i h b =
-      let a = ap length (so_far_takes i h b) ∙ length_push (so_far i) (get_or R i no_run).first in
+      let a = ap length (so_far_takes i h b) ∙ length_push (so_far i) (get_or R i no_range).first in
       let k = so_far_few (i + 1) in
       omega arith

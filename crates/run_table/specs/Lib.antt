@@ -1,4 +1,4 @@
 pub mod Tables
-pub mod Edits
 pub mod NewRuns
+pub mod EditedSets
 pub mod Answers

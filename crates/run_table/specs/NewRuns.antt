@@ -1,18 +1,13 @@
 -- How the runs of the set after an edit are computed: terms for the contracts of the private functions, and for how many
 -- ranges an edit leaves where those before it are the runs of no set.
-use Rattle.std.specs.Prelude.{ℕ, ◌+◌, ◌-◌, ◌%◌, ◌^◌, min, Bool, true, false, cond, List, [], ◌∷◌, ◌++◌, map, filter, nat_lt}
+use Rattle.std.specs.Prelude.{ℕ, ◌+◌, ◌-◌, ◌%◌, ◌^◌, min, Bool, cond, List, [], ◌∷◌, ◌++◌, map, filter, nat_lt}
 use Rattle.covers.specs.Rivals.{NumberSet, in_ranges}
 use Rattle.circle.specs.Runs.{before, after, begins, ends}
 use Rattle.rows.specs.declared.range.Range.{Range}
-use Rattle.run_table.specs.declared.edit.Edit.{Edit}
-use Rattle.run_table.specs.declared.edit.Edit.TheVariants.{Add, Drop}
-use Rattle.run_table.specs.Edits.{edited}
-use Rattle.run_table.specs.Tables.{ranges_of}
-
--- the edit adds its range
-abbrev pub adding : Edit → Bool
-adding (Add range) = true
-adding (Drop range) = false
+use Rattle.rows.specs.declared.edit.Edit.{Edit}
+use Rattle.rows.specs.declared.edit.Edit.TheVariants.{Add, Drop}
+use Rattle.rows.specs.Edits.{edited}
+use Rattle.rows.specs.Ranges.{ranges_of}
 
 -- where a run may begin after the edit and did not before
 abbrev pub first_candidate : ℕ → Edit → ℕ

@@ -1,13 +1,10 @@
 -- What a table of runs means.
-use Rattle.std.specs.Prelude.{◌≡◌, ℕ, min, List, map, take}
+use Rattle.std.specs.Prelude.{◌≡◌, ℕ, min, List, take}
 use Rattle.covers.specs.Rivals.{NumberSet}
 use Rattle.circle.specs.Runs.{runs}
 use Rattle.rows.specs.declared.range.Range.{Range}
+use Rattle.rows.specs.Ranges.{ranges_of}
 use Rattle.run_table.specs.declared.table.RunTable.{RunTable}
-
--- a run by its first and last number
-abbrev pub ranges_of : List Range → List (ℕ × ℕ)
-ranges_of runs = map (λ r. (r.first, r.last)) runs
 
 -- the entries that stand
 abbrev pub standing : RunTable → List Range

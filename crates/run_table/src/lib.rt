@@ -2,10 +2,6 @@
 #![tactic(auto)]
 
 mod circle_steps;
-pub mod edit;
 mod edited_set;
-mod editing;
 mod run;
 pub mod table;
-mod table_rows;
-mod theorems;

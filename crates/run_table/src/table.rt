@@ -1,12 +1,12 @@
-// The table of runs.
-ghost use Rattle.std.specs.Prelude.{◌≡◌, ℕ, ◌-◌, ◌^◌, ◌<◌, ◌≤◌, true, false, [], ◌∷◌, length};
+// The table of runs, and its edits.
+ghost use Rattle.std.specs.Prelude.{◌≡◌, ℕ, ◌-◌, ◌^◌, ◌<◌, ◌≤◌, true, false, [], ◌∷◌, length, Err};
 
-use super::run::any_contains;
+use super::edited_set::EditedSet;
+use super::run::{MOST_RUNS, any_contains};
+use rows::edit::Edit;
 use rows::range::Range;
+use rows::refusal::Refusal;
 use rows::width::Width;
-
-// The most runs of a table.
-pub(super) const MOST_RUNS: usize = 16;
 
 // What stands where no run does.
 const NO_RUN: Range = Range { first: 0, last: 0 };
@@ -24,8 +24,12 @@ pub struct RunTable {
 impl RunTable {
     ghost use Rattle.covers.specs.Rivals.{NumberSet, in_ranges};
     ghost use Rattle.rows.specs.Widths.{places_of};
-    ghost use Rattle.circle.specs.Runs.{run_at};
-    ghost use Rattle.run_table.specs.Tables.{TableOf, ranges_of, table_runs};
+    ghost use Rattle.circle.specs.Runs.{run_at, runs};
+    ghost use Rattle.rows.specs.declared.refusal.Refusal.TheVariants.{NumberOutsideWidth};
+    ghost use Rattle.rows.specs.Edits.{edit_in_width};
+    ghost use Rattle.run_table.specs.Answers.{EditRefusals, AnswersAsItsSet};
+    ghost use Rattle.rows.specs.Ranges.{ranges_of};
+    ghost use Rattle.run_table.specs.Tables.{TableOf, table_runs};
 
     // No runs: the table of the empty set.
     pub fn empty() -> RunTable
@@ -77,8 +81,36 @@ impl RunTable {
         any_contains(self.runs(), number)
     }
 
+    /// The table of the set after the edit, where this is the table of a set at the width; of another table it is left
+    /// free which one is answered. Refused 2 if an end of the edit is no number of the width, then 6 if the set has more
+    /// than 16 runs, or, of a table that is that of no set, if the edit leaves more than 16 ranges.
+    pub fn after_edit(&self, width: Width, edit: Edit) -> Result<RunTable, Refusal>
+        ensures answer_else_left_free { AnswersAsItsSet (places_of width) edit self.now result }
+        ensures outside { edit_in_width (places_of width) edit ≡ false →
+            result ≡ Err NumberOutsideWidth }
+        ensures free_refusals { EditRefusals (places_of width) edit (table_runs self.now) result }
+    {
+        if !edit.in_width(width) {
+            return Err(Refusal::NumberOutsideWidth);
+        }
+        let set = EditedSet {
+            runs: self.runs(),
+            edit,
+            width,
+        };
+        let runs = set.new_runs();
+        if runs.len() > MOST_RUNS {
+            return Err(Refusal::TooManyRuns);
+        }
+        if runs.is_empty() && edit.adds() {
+            // no run begins anywhere, and the set is not empty
+            return Ok(RunTable::whole(width));
+        }
+        Ok(RunTable::holding(runs.as_slice()))
+    }
+
     // The table of these runs.
-    pub(super) fn holding(runs: &[Range]) -> RunTable
+    fn holding(runs: &[Range]) -> RunTable
         requires few { length runs.now ≤ 16 }
         ensures runs { table_runs result ≡ ranges_of runs.now }
     {
@@ -93,6 +125,8 @@ impl RunTable {
     // The runs that stand.
     pub fn runs(&self) -> &[Range]
         ensures value { ranges_of result.now ≡ table_runs self.now }
+        ensures of_set { (n : ℕ) (S : NumberSet) → TableOf n S self.now →
+            ranges_of result.now ≡ runs n S }
         ensures few { length result.now ≤ 16 }
     {
         &self.runs[0..self.count.min(MOST_RUNS)]

@@ -3,11 +3,12 @@
 
 #[cfg(test)]
 mod tests {
+    use ranges::runs::rows_of_runs;
+    use rows::edit::Edit;
     use rows::range::Range;
     use rows::refusal::Refusal;
     use rows::row_words::RowWords;
     use rows::width::Width;
-    use run_table::edit::Edit;
     use run_table::table::RunTable;
     use std::test::Fail;
 
@@ -35,7 +36,7 @@ mod tests {
         let table = table.after_edit(width, Edit::Add(Range::new(2, 2)))?;
         assert_eq!(rt; table.len(), 1);
         assert_eq!(rt; table.get(0), Some((0, 7)));
-        assert_eq!(rt; table.row_count(width), 1);
+        assert_eq!(rt; rows_of_runs(width, table.runs(), 1)?.len(), 1);
         Ok(())
     }
 
@@ -105,18 +106,13 @@ mod tests {
         let width = Width::try_from(3)?;
         let table = RunTable::empty().after_edit(width, Edit::Add(Range::new(1, 2)))?;
         let table = table.after_edit(width, Edit::Add(Range::new(4, 5)))?;
-        let old = RowWords { value: 7, care: 7 };
-        let mut memory = [old; 4];
-        assert_eq!(rt;
-            table.write_rows(width, &mut memory[0..2]),
-            Err(Refusal::MemoryTooShort)
-        );
-        assert_eq!(rt; memory[0], old);
-        assert_eq!(rt; table.write_rows(width, &mut memory), Ok(3));
-        assert_eq!(rt; memory[0], RowWords { value: 1, care: 7 });
-        assert_eq!(rt; memory[1], RowWords { value: 2, care: 7 });
-        assert_eq!(rt; memory[2], RowWords { value: 4, care: 6 });
-        assert_eq!(rt; memory[3], old);
+        let refused = rows_of_runs(width, table.runs(), 2).err();
+        assert_eq!(rt; refused, Some(Refusal::TooManyRows));
+        let rows = rows_of_runs(width, table.runs(), 3)?;
+        assert_eq!(rt; rows.len(), 3);
+        assert_eq!(rt; rows[0], RowWords { value: 1, care: 7 });
+        assert_eq!(rt; rows[1], RowWords { value: 2, care: 7 });
+        assert_eq!(rt; rows[2], RowWords { value: 4, care: 6 });
         Ok(())
     }
 }

@@ -1,32 +1,21 @@
-use Rattle.std.proofs.Common.{◌≡◌, ◌+◌, ◌^◌, ◌<◌, ◌≤◌, take, cond, ◌++◌, map, length, drop, Ok, Err, sym, ap, ◌∙◌, subst, ap₂, arith}
+use Rattle.std.proofs.Common.{◌≡◌, ◌+◌, ◌^◌, ◌<◌, ◌≤◌, take, cond, ◌++◌, map, length, drop, Ok, Err, sym, ap, ◌∙◌, subst}
 use Rattle.std.specs.Prelude.{nat_le}
 use Rattle.std.proofs.lemmas.List.{length-map}
 use Rattle.covers.specs.Rivals.{in_range, TakesPrecisely, Shortest}
 use Rattle.covers.specs.Rules.{most_rows, rows_of_range}
-use Rattle.covers.proofs.RangeLists.{range_exact, range_shortest, range_long, range_few, most_few}
+use Rattle.covers.proofs.RangeLists.{range_exact, range_shortest, range_long, range_few}
 use Rattle.rows.specs.declared.refusal.Refusal.TheVariants.{NumberOutsideWidth, MemoryTooShort}
 use Rattle.rows.specs.Memory.{words_of}
 use Rattle.rows.specs.Widths.{places_of}
-use Rattle.rows.proofs.Widths.{places_some, places_most}
+use Rattle.rows.proofs.Widths.{places_some}
 use Rattle.ranges.specs.RangeRows.{rows_in}
 use Rattle.ranges.proofs.Handing.{handed, handed_answer}
-use Rattle.ranges.proofs.RunLists.{ends_fit, ends_granted, first_rows, words_within, words_clean, rows_read, run_is}
+use Rattle.ranges.proofs.RunLists.{first_rows, rows_read, within_fit, words_clean, words_within}
 use Rattle.ranges.specs.FromZero.{rows_below}
 use Rattle.ranges.proofs.FromZero.{zero_words, zero_answer}
 use Rattle.std.specs.List.{AllByRecursion}
 use lib.Bits.{bit_and}
 use Rattle.ranges.proofs.range.rows_of_range.Goals as goal
-
-pub write-requires : goal.write-requires
-write-requires c =
-    let n = places_of c.args.width in
-    let rows = rows_of_range n c.args.range.first c.args.range.last in
-    let run = c.run.ensures in
-    let k = ap length (run_is c.in_ok-ends.ensures.made run.places run.first run.last c.of-2.ensures.alone) ∙ length-map rows words_of in
-    let few = range_few n c.args.range.first c.args.range.last (places_some c.args.width) in
-    let most = most_few n (places_most c.args.width) in
-    let none = ap length c.new-rows.ensures in
-    record { room = omega arith }
 
 pub returns : goal.returns
 returns c =
@@ -34,13 +23,11 @@ returns c =
     let n = places_of w in
     let f = c.args.range.first in
     let l = c.args.range.last in
-    let made = c.in_ok-ends.ensures.made in
-    let ends = ends_fit made in
+    let made = c.in_ok-rows.ensures.made in
+    let ends = within_fit n f l made.0 in
     let rows = rows_of_range n f l in
     let long = length-map rows words_of in
-    let run = c.run.ensures in
-    let all : c.deref.result.now ≡ map words_of rows =
-    c.deref.ensures.0 ∙ c.write.ensures.rows ∙ ap₂ (λ x y. x ++ y) c.new-rows.ensures (run_is made run.places run.first run.last c.of-2.ensures.alone) in
+    let all : c.deref.result.now ≡ map words_of rows = c.deref.ensures.0 ∙ made.1 in
     let over = c.hand_over.ensures in
     let granted = handed c.deref.result.now c.args.memory.now c.hand_over.new.memory (map words_of rows) c.hand_over.result over.answer over.copied all in
     let read : c.hand_over.new.memory ≡ map words_of rows ++ drop (length (map words_of rows)) c.args.memory.now → rows_in n (length (map words_of rows)) c.hand_over.new.memory ≡ rows = λ at.
@@ -48,7 +35,7 @@ returns c =
     let answer =
     handed_answer c.deref.result.now c.args.memory.now c.hand_over.new.memory (map words_of rows) c.hand_over.result over.answer over.copied all ∙
     ap (λ k. cond (nat_le k (length c.args.memory.now)) (Ok k) (Err MemoryTooShort)) long ∙
-    ap (λ b. cond b (cond (nat_le (length rows) (length c.args.memory.now)) (Ok (length rows)) (Err MemoryTooShort)) (Err NumberOutsideWidth)) (sym (ends_granted made)) in
+    ap (λ b. cond b (cond (nat_le (length rows) (length c.args.memory.now)) (Ok (length rows)) (Err MemoryTooShort)) (Err NumberOutsideWidth)) (sym made.0) in
     let first : c.hand_over.new.memory ≡ map words_of rows ++ drop (length (map words_of rows)) c.args.memory.now → take (length (map words_of rows)) c.hand_over.new.memory ≡ map words_of rows = λ at.
     ap (take (length (map words_of rows))) at ∙ first_rows rows (drop (length (map words_of rows)) c.args.memory.now) (length (map words_of rows)) long in
     record {

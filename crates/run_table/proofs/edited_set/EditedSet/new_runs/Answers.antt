@@ -4,7 +4,7 @@ use Rattle.rows.specs.Widths.{places_of}
 use Rattle.run_table.specs.NewRuns.{below_and_above, firsts_of, new_runs, runs_at}
 use Rattle.arrayvec.specs.ArrayVec.{ArrayVec}
 use Rattle.rows.specs.declared.range.Range.{Range}
-use Rattle.run_table.proofs.Tables.{no_run}
+use Rattle.rows.proofs.Ranges.{no_range}
 use Rattle.run_table.proofs.Writing.{runs_at_more, runs_at_few, filter_takes, filter_leaves, front_few, all_firsts, so_far, so_far_takes, so_far_leaves, so_far_room}
 use Rattle.run_table.proofs.edited_set.EditedSet.new_runs.Goals as goal
 use Rattle.run_table.proofs.edited_set.EditedSet.new_runs.Goals.{then-run-new, else-run-new, then-new-run, else-new-run}
@@ -31,7 +31,7 @@ loop-run-preserved c =
     let x = c.new_first-new.result in
     let L = c.loop-run in
     let i = L.run-index in
-    let f = (get_or R i no_run).first in
+    let f = (get_or R i no_range).first in
     let l = filter (λ f. ltb f x) (take i (firsts_of R)) in
     elim c.if-run-new.branch [
       | then-run-new w ↦ ap items w.out-is ∙ runs_at_more n e R L.out.items _ l f L.invariant w.keep.ensures.runs ∙
@@ -68,7 +68,7 @@ keep-requires-then-new-run c =
     let x = c.new_first-new.result in
     let R = c.args.self.runs.now in
     let L = c.loop-run-2 in
-    let f = (get_or R L.run-index no_run).first in
+    let f = (get_or R L.run-index no_range).first in
     let a = ap length L.invariant in
     let b = runs_at_few n c.args.self.edit R (so_far x R L.run-index) in
     let k = so_far_room x R L.run-index c.loop-run-2-test.true (lt-ltb x f c.if-new-run.true) in
@@ -83,7 +83,7 @@ loop-run-2-preserved c =
     let x = c.new_first-new.result in
     let L = c.loop-run-2 in
     let i = L.run-index in
-    let f = (get_or R i no_run).first in
+    let f = (get_or R i no_range).first in
     elim c.if-new-run.branch [
       | then-new-run w ↦ ap items w.out-is ∙ runs_at_more n e R L.out.items _ (so_far x R i) f L.invariant w.keep-then-new-run.ensures.runs ∙
           ap (runs_at n e R) (sym (so_far_takes x R i c.loop-run-2-test.true (lt-ltb x f w.if-new-run.true)))

@@ -3,7 +3,7 @@ use Rattle.std.proofs.lemmas.List.{at_drop_more, at_drop_all}
 use Rattle.circle.specs.Runs.{ends}
 use Rattle.rows.specs.Widths.{places_of}
 use Rattle.run_table.specs.NewRuns.{lasts_of, least_of, set_after, steps, steps_to_end}
-use Rattle.run_table.proofs.Tables.{no_run}
+use Rattle.rows.proofs.Ranges.{no_range}
 use Rattle.run_table.proofs.edited_set.EditedSet.steps_to_end.Goals as goal
 
 pub loop-run-init : goal.loop-run-init
@@ -24,7 +24,7 @@ loop-run-preserved c =
     let d : ℕ → ℕ = steps n c.args.from in
     let i = c.loop-run.run-index in
     ap (λ (m : ℕ). least_of p d m (lasts_of (drop (i + 1) R))) c.fewer_steps-fewest-in-loop-run.ensures.value ∙
-    sym (at_drop_more (λ l. least_of p d c.loop-run.fewest (lasts_of l)) R i no_run c.loop-run-test.true) ∙ c.loop-run.invariant
+    sym (at_drop_more (λ l. least_of p d c.loop-run.fewest (lasts_of l)) R i no_range c.loop-run-test.true) ∙ c.loop-run.invariant
 
 pub returns : goal.returns
 returns c =

@@ -3,9 +3,9 @@ use Rattle.std.proofs.lemmas.Bool.{both_ways, eqb-true, eqb-false}
 use Rattle.std.proofs.lemmas.List.{nil_from_length}
 use Rattle.rows.specs.Widths.{places_of}
 use Rattle.rows.proofs.Widths.{places_most}
-use Rattle.run_table.specs.Tables.{ranges_of}
-use Rattle.run_table.specs.Edits.{edit_in_width}
-use Rattle.run_table.specs.NewRuns.{adding, new_runs}
+use Rattle.rows.specs.Ranges.{ranges_of}
+use Rattle.rows.specs.Edits.{adding, edit_in_width}
+use Rattle.run_table.specs.NewRuns.{new_runs}
 use Rattle.run_table.proofs.EditAnswers.{left_counted, answered_whole, answered_runs, answered_many}
 use Rattle.run_table.proofs.table.RunTable.after_edit.Goals as goal
 use Rattle.run_table.proofs.table.RunTable.after_edit.Goals.{else-is_empty-via-then-is_empty+else-adds, else-is_empty-via-else-is_empty}

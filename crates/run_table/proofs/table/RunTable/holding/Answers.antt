@@ -1,5 +1,6 @@
 use Rattle.std.proofs.Common.{ap}
-use Rattle.run_table.specs.Tables.{ranges_of, table_runs}
+use Rattle.rows.specs.Ranges.{ranges_of}
+use Rattle.run_table.specs.Tables.{table_runs}
 use Rattle.run_table.proofs.Tables.{held_runs}
 use Rattle.run_table.proofs.table.RunTable.holding.Goals as goal
 
