@@ -1,12 +1,8 @@
-pub mod Rows
+pub mod Says
 pub mod Slots
 pub mod Granted
-pub mod Tables
 pub mod KeptOn
 pub mod Plays
-pub mod BitSets
-pub mod Columns
-pub mod ColumnTables
 pub mod SymbolTakes
 pub mod SameAnswers
 pub mod Equality

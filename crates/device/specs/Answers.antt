@@ -8,7 +8,7 @@ use Rattle.device.specs.States.{Slot, DeviceState, says}
 
 -- a slot is written, all else stays
 abbrev pub with_slot : DeviceState → ℕ → Slot → DeviceState
-with_slot s slot content = record { width = s.width; slots = slice_set s.slots slot content; muted = s.muted }
+with_slot s slot content = record s { slots = slice_set s.slots slot content }
 
 abbrev pub put_answer : DeviceState → ℕ → Row → Result (Unit {0}) Refusal
 put_answer s slot row =
@@ -27,7 +27,7 @@ abbrev pub read_answer : DeviceState → ℕ → Result Slot Refusal
 read_answer s slot = cond (nat_lt slot (length s.slots)) (Ok (slice_index_or s.slots slot None)) (Err NoSuchSlot)
 
 abbrev pub after_mute : DeviceState → Bool → DeviceState
-after_mute s on = record { width = s.width; slots = s.slots; muted = on }
+after_mute s on = record s { muted = on }
 
 abbrev pub ask_answer : DeviceState → ℕ → Result Bool Refusal
 ask_answer s x = cond (nat_lt x (2 ^ s.width)) (Ok (says s x)) (Err NumberOutsideWidth)

@@ -3,12 +3,6 @@ pub mod Answers
 pub mod Levels
 pub mod KeptBeside
 pub mod KeptBesideLaws
-pub mod MadeRows
 pub mod Exchanges
 pub mod Replays
-pub mod SlotTables
-pub mod SlotTableLaws
-pub mod Columns
-pub mod ColumnTables
-pub mod ColumnTableLaws
 pub mod SymbolLaws

@@ -18,20 +18,13 @@ abbrev pub answered_by : {X : Type 0} → (X → DeviceAnswer) → Result X Refu
 answered_by granted (Ok x) = Ok (granted x)
 answered_by granted (Err e) = Err e
 
--- the answer to one call, and the meaning after it
-abbrev pub answer_to : DeviceState → DeviceCall → Answer
-answer_to s (Put slot row) = answered_by (λ _. Done) (put_answer s slot row)
-answer_to s (Empty slot) = answered_by (λ _. Done) (empty_answer s slot)
-answer_to s (Read slot) = answered_by Holds (read_answer s slot)
-answer_to s (Mute on) = Ok Done
-answer_to s (Ask number) = answered_by Says (ask_answer s number)
-
-abbrev pub after_call : DeviceState → DeviceCall → DeviceState
-after_call s (Put slot row) = after_put s slot row
-after_call s (Empty slot) = after_empty s slot
-after_call s (Read slot) = s
-after_call s (Mute on) = after_mute s on
-after_call s (Ask number) = s
+-- one call: its answer, and the meaning after it
+abbrev pub device_step : DeviceCall → DeviceState → Answer × DeviceState
+device_step (Put slot row) s = (answered_by (λ _. Done) (put_answer s slot row), after_put s slot row)
+device_step (Empty slot) s = (answered_by (λ _. Done) (empty_answer s slot), after_empty s slot)
+device_step (Read slot) s = (answered_by Holds (read_answer s slot), s)
+device_step (Mute on) s = (Ok Done, after_mute s on)
+device_step (Ask number) s = (answered_by Says (ask_answer s number), s)
 
 -- the slots that one call has put or emptied
 abbrev pub call_writes : DeviceState → DeviceCall → List ℕ
@@ -44,15 +37,15 @@ call_writes s (Ask number) = []
 -- the answers to a list of calls, and the meaning after them all
 abbrev pub answers_to : DeviceState → List DeviceCall → List Answer
 answers_to s [] = []
-answers_to s (c ∷ calls) = answer_to s c ∷ answers_to (after_call s c) calls
+answers_to s (c ∷ calls) = (device_step c s).0 ∷ answers_to (device_step c s).1 calls
 
 abbrev pub after_calls : DeviceState → List DeviceCall → DeviceState
-after_calls = after_all after_call
+after_calls = after_all device_step
 
 -- the exchanges with each answer beside its call
 abbrev pub answered : DeviceState → List (Exchange DeviceCall Answer) → List (Exchange DeviceCall Answer)
-answered s exchanges = answered_all answer_to after_call s (calls_of exchanges)
+answered s exchanges = answered_all device_step s (calls_of exchanges)
 
 -- the slots that a list of calls has put or emptied, in order
 abbrev pub writes_of : DeviceState → List DeviceCall → List ℕ
-writes_of = written_all call_writes after_call
+writes_of = written_all call_writes device_step

@@ -10,9 +10,6 @@ use rows::refusal::Refusal;
 use rows::row::Row;
 use rows::width::Width;
 
-// No device has more slots.
-pub const MOST_SLOTS: usize = 120;
-
 // A chip that holds rows in slots, and says of a number whether one of them takes it.
 pub trait RowDevice {
     // what the device means; every call is told by it

@@ -30,13 +30,13 @@ impl<D: RowDevice> RowDevice for LentDevice<'_, D> {
     ghost use Rattle.device.specs.KeptBeside.{KeptBeside};
     ghost use Rattle.device.specs.KeptBesideLaws.{kept_at_rest, kept_on};
 
-    ghost state = { λ l. D.RowDevice.state l.device.now };
+    ghost state = { λ l. D.state l.device.now };
 
-    ghost lawful = { λ l. D.RowDevice.lawful l.device.now };
+    ghost lawful = { λ l. D.lawful l.device.now };
 
-    ghost levels = { λ l. D.RowDevice.levels l.device.now };
+    ghost levels = { λ l. D.levels l.device.now };
 
-    ghost beneath = { λ l. D.RowDevice.beneath l.device.now };
+    ghost beneath = { λ l. D.beneath l.device.now };
 
     // it is the very device that was lent, and keeps what that keeps
     ghost keeps = { λ k written l. (l.device.ghost_name ≡ k.device.ghost_name) × KeptBeside D.RowDevice k.device.now written l.device.now };

@@ -2,7 +2,7 @@
 ghost use Rattle.std.specs.Prelude.{◌≡◌, true};
 ghost use Rattle.device.specs.KeptBeside.{KeptBeside};
 ghost use Rattle.device.specs.Exchanges.{calls_of};
-ghost use Rattle.device.specs.Replays.{answer_to, after_call, answers_to, after_calls, answered, call_writes, writes_of};
+ghost use Rattle.device.specs.Replays.{answers_to, after_calls, answered, call_writes, device_step, writes_of};
 
 use super::call::{DeviceAnswer, DeviceCall, DeviceExchange};
 use super::device::RowDevice;
@@ -10,8 +10,8 @@ use rows::refusal::Refusal;
 
 // Makes one call.
 pub fn perform<D: RowDevice>(device: &mut D, call: DeviceCall) -> Result<DeviceAnswer, Refusal>
-    ensures answer { result ≡ answer_to (D.RowDevice.state device.old) call }
-    ensures after { D.RowDevice.state device.new ≡ after_call (D.RowDevice.state device.old) call }
+    ensures answer { result ≡ (device_step call (D.state device.old)).0 }
+    ensures after { D.state device.new ≡ (device_step call (D.state device.old)).1 }
     ensures beside { KeptBeside D.RowDevice device.old (call_writes (D.state device.old) call)
         device.new }
 {
@@ -41,8 +41,8 @@ pub fn perform<D: RowDevice>(device: &mut D, call: DeviceCall) -> Result<DeviceA
 
 // Makes the calls in their order, and writes each answer beside its call.
 pub fn replay<D: RowDevice>(device: &mut D, exchanges: &mut [DeviceExchange])
-    ensures answers { exchanges.new ≡ answered (D.RowDevice.state device.old) exchanges.old }
-    ensures after { D.RowDevice.state device.new ≡ after_calls (D.RowDevice.state device.old) (calls_of exchanges.old) }
+    ensures answers { exchanges.new ≡ answered (D.state device.old) exchanges.old }
+    ensures after { D.state device.new ≡ after_calls (D.state device.old) (calls_of exchanges.old) }
     ensures beside { KeptBeside D.RowDevice device.old
         (writes_of (D.state device.old) (calls_of exchanges.old)) device.new }
 {
@@ -58,11 +58,11 @@ pub fn answer_alike<A: RowDevice, B: RowDevice>(
     second: &mut B,
     calls: &[DeviceCall],
 ) -> bool
-    ensures same_meaning { A.RowDevice.state first.old ≡ B.RowDevice.state second.old → result ≡ true }
-    ensures alike { answers_to (A.RowDevice.state first.old) calls.now ≡ answers_to (B.RowDevice.state second.old) calls.now → result ≡ true }
-    ensures only_alike { result ≡ true → answers_to (A.RowDevice.state first.old) calls.now ≡ answers_to (B.RowDevice.state second.old) calls.now }
-    ensures first_after { A.RowDevice.state first.new ≡ after_calls (A.RowDevice.state first.old) calls.now }
-    ensures second_after { B.RowDevice.state second.new ≡ after_calls (B.RowDevice.state second.old) calls.now }
+    ensures same_meaning { A.state first.old ≡ B.state second.old → result ≡ true }
+    ensures alike { answers_to (A.state first.old) calls.now ≡ answers_to (B.state second.old) calls.now → result ≡ true }
+    ensures only_alike { result ≡ true → answers_to (A.state first.old) calls.now ≡ answers_to (B.state second.old) calls.now }
+    ensures first_after { A.state first.new ≡ after_calls (A.state first.old) calls.now }
+    ensures second_after { B.state second.new ≡ after_calls (B.state second.old) calls.now }
     ensures first_beside { KeptBeside A.RowDevice first.old
         (writes_of (A.state first.old) calls.now) first.new }
     ensures second_beside { KeptBeside B.RowDevice second.old

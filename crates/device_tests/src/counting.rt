@@ -9,10 +9,11 @@ ghost use Rattle.device_tests.specs.Counts.{KeepsCounts};
 ghost use Rattle.device_tests.specs.CountLaws.{counts_at_rest, counts_kept_on};
 
 use device::call::DeviceExchange;
-use device::device::{MOST_SLOTS, RowDevice};
+use device::device::RowDevice;
 use device::replay::replay;
 use rows::refusal::Refusal;
 use rows::row::Row;
+use rows::slots::MOST_SLOTS;
 use rows::width::Width;
 
 // It means what the device below means, and beside that tells of each slot how often it was put or emptied.
@@ -52,13 +53,13 @@ impl<D: RowDevice> Counting<D> {
 }
 
 impl<D: RowDevice> RowDevice for Counting<D> {
-    ghost state = { λ c. D.RowDevice.state c.below };
+    ghost state = { λ c. D.state c.below };
 
-    ghost lawful = { λ c. D.RowDevice.lawful c.below };
+    ghost lawful = { λ c. D.lawful c.below };
 
-    ghost levels = { λ c. D.RowDevice.levels c.below };
+    ghost levels = { λ c. D.levels c.below };
 
-    ghost beneath = { λ c. D.RowDevice.beneath c.below };
+    ghost beneath = { λ c. D.beneath c.below };
 
     // the counts of the other slots stay, and so does what the device below keeps
     ghost keeps = { λ c written e. KeepsCounts c.counts written e.counts × KeptBeside D.RowDevice c.below written e.below };
@@ -110,8 +111,8 @@ fn count_after<D: RowDevice>(
     slot: usize,
 ) -> u32
     requires within { slot < 120 }
-    ensures answers { exchanges.new ≡ answered (D.RowDevice.state counting.old.below) exchanges.old }
-    ensures untouched { ¬ Contains (writes_of (D.RowDevice.state counting.old.below) (calls_of exchanges.old)) slot →
+    ensures answers { exchanges.new ≡ answered (D.state counting.old.below) exchanges.old }
+    ensures untouched { ¬ Contains (writes_of (D.state counting.old.below) (calls_of exchanges.old)) slot →
         result ≡ slice_index counting.old.counts slot }
 {
     replay(counting, exchanges);
@@ -121,15 +122,15 @@ fn count_after<D: RowDevice>(
 #[cfg(test)]
 mod tests {
     use super::{Counting, count_after};
+    use column_table::ColumnTable;
     use device::call::{DeviceAnswer, DeviceCall, DeviceExchange};
-    use device::column_table::ColumnTable;
     use device::device::RowDevice;
+    use device::new_device::NewDevice;
     use device::replay::answer_alike;
-    use device::slot_record::SlotRecord;
-    use device::slot_table::SlotTable;
     use rows::refusal::Refusal;
     use rows::row::Row;
     use rows::width::Width;
+    use slot_table::{SlotRecord, SlotTable};
     use std::process::Abort;
     use std::test::Fail;
 

@@ -1,14 +1,14 @@
 // Memory and a device that are lent, and what their owner finds afterwards.
 use super::refusals::{holds_at_the_end, refuses};
+use column_table::ColumnTable;
 use device::call::{DeviceAnswer, DeviceCall, DeviceExchange};
-use device::column_table::ColumnTable;
 use device::device::RowDevice;
-use device::lent::replay_on_records;
 use device::lent_device::LentDevice;
-use device::slot_record::SlotRecord;
+use device::new_device::NewDevice;
 use rows::refusal::Refusal;
 use rows::row::Row;
 use rows::width::Width;
+use slot_table::{SlotRecord, replay_on_records};
 use std::test::Fail;
 
 // The rows of the first and of the last slot.

@@ -86,10 +86,9 @@ mod tests {
     use super::OneSlot;
     use device::call::DeviceCall;
     use device::replay::answer_alike;
-    use device::slot_record::SlotRecord;
-    use device::slot_table::SlotTable;
     use rows::row::Row;
     use rows::width::Width;
+    use slot_table::{SlotRecord, SlotTable};
     use std::test::Fail;
 
     #[test]

@@ -1,15 +1,15 @@
 // Every refusal on both tables, and tables of none, of many and of too many slots.
 ghost use Rattle.std.specs.Prelude.{◌≡◌, true};
 
+use column_table::ColumnTable;
 use device::call::DeviceCall;
-use device::column_table::ColumnTable;
 use device::device::RowDevice;
+use device::new_device::NewDevice;
 use device::replay::answer_alike;
-use device::slot_record::SlotRecord;
-use device::slot_table::SlotTable;
 use rows::refusal::Refusal;
 use rows::row::Row;
 use rows::width::Width;
+use slot_table::{SlotRecord, SlotTable};
 use std::process::Abort;
 use std::test::Fail;
 

@@ -9,7 +9,7 @@ use Rattle.covers.specs.Digits.{digit}
 use Rattle.covers.proofs.Numbers.{digit_low}
 use Rattle.covers.proofs.RowWords.{digit_and}
 use Rattle.rows.specs.declared.row.Row.{Row}
-use Rattle.device.proofs.BitSets.{digit_xor, digit_beyond}
+use Rattle.covers.proofs.Digitwise.{digit_xor, digit_beyond}
 use Rattle.layers.specs.Flips.{flipped, is_marked, other_symbol, FlipsDigits, FlipsSymbols}
 use Rattle.layers.specs.Turns.{turned, TurnsDigits, TurnsSymbols}
 use Rattle.layers.proofs.Turning.{turned_none, turned_more}

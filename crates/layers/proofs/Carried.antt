@@ -1,5 +1,5 @@
 -- What a layer answers, by what the device below answers.
-use Rattle.std.proofs.Common.{◌≡◌, ℕ, ◌^◌, ◌<◌, Bool, true, false, cond, not, ◌&&◌, ◌||◌, ltb, List, [], ◌∷◌, length, set, Some, None, Ok, Err, Result, sym, refl, ap, ◌∙◌, ap₂}
+use Rattle.std.proofs.Common.{◌≡◌, ℕ, ◌^◌, ◌<◌, Bool, true, false, cond, ◌||◌, ltb, List, [], ◌∷◌, length, set, Some, None, Ok, Err, Result, sym, refl, ap, ◌∙◌, ap₂}
 use lib.ListN.{length-map}
 use lib.Seq.{map-set}
 use Rattle.std.specs.List.{AllByRecursion}
@@ -11,6 +11,7 @@ use Rattle.device.specs.States.{Slot, DeviceState, SlotWithin, row_takes, some_s
 use Rattle.rows.specs.Refusals.{if_granted}
 use Rattle.device.specs.Answers.{with_slot, after_put, after_empty, ask_answer}
 use Rattle.device.specs.Levels.{Carrying, Carries, carried_slot, carried_slots}
+use Rattle.device.proofs.Says.{says_alike}
 use Rattle.layers.specs.Layers.{layer_state, number_below, row_below}
 
 -- the answers, by their tests
@@ -24,7 +25,7 @@ abbrev ask_of : Bool → Bool → Result Bool Refusal
 ask_of t said = cond t (Ok said) (Err NumberOutsideWidth)
 
 abbrev holding : DeviceState → List Slot → DeviceState
-holding s slots = record { width = s.width; slots = slots; muted = s.muted }
+holding s slots = record s { slots = slots }
 
 -- the slots take a carried number as the slots carried back take the number
 carried_takes : (n : ℕ) (c : Carrying) → Carries n c → (x : ℕ) → x < 2 ^ n → (slots : List Slot) → AllByRecursion (SlotWithin n) slots → some_slot_takes slots (c.number_there x) ≡ some_slot_takes (carried_slots c.row_back slots) x
@@ -84,7 +85,7 @@ module _ (carrying : ℕ → Carrying) (s : DeviceState) where
       go true e =
           let h = ltb-true x (2 ^ s.width) e in
           ap₂ ask_of (lt-ltb ((carrying s.width).number_there x) (2 ^ s.width) (k.number_stays x h))
-          (ap (λ (b : Bool). not s.muted && b) (carried_takes s.width (carrying s.width) k x h s.slots w))
+          (says_alike s (layer_state carrying s) ((carrying s.width).number_there x) x refl (carried_takes s.width (carrying s.width) k x h s.slots w))
       go false e = ap (λ (t : Bool). ask_of t (says s x)) e
 
   pub ask_carried : Carries s.width (carrying s.width) → AllByRecursion (SlotWithin s.width) s.slots → (x below : ℕ) (asked said : Result Bool Refusal) → below ≡ number_below carrying s x → asked ≡ ask_answer s below → asked ≡ said →

@@ -9,7 +9,7 @@ use Rattle.covers.specs.Rivals.{Rival}
 use Rattle.covers.proofs.RowWords.{care_word_fits, clean_word, symbols_back}
 use Rattle.rows.specs.declared.row.Row.{Row}
 use Rattle.device.specs.States.{Slot, DeviceState, SlotWithin, Lawful, row_takes, some_slot_takes}
-use Rattle.device.specs.MadeRows.{row_made}
+use Rattle.rows.specs.MadeRows.{row_made}
 use Rattle.device.specs.SymbolLaws.{rows_in}
 use Rattle.rows.specs.Memory.{symbols_of}
 use Rattle.device.specs.Levels.{Level, Beneath, carried_slots}

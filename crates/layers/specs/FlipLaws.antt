@@ -6,7 +6,7 @@ use Rattle.std.specs.Int.Bits.{xor_assoc, xor_self, xor_zero_r}
 use Rattle.covers.proofs.Masks.{and_over_xor}
 use Rattle.rows.specs.declared.row.Row.{Row}
 use Rattle.device.specs.States.{row_takes}
-use Rattle.device.specs.MadeRows.{row_made}
+use Rattle.rows.specs.MadeRows.{row_made}
 use Rattle.device.specs.Levels.{Carries}
 use Rattle.rows.proofs.SameRows.{row_same}
 use Rattle.layers.specs.EqualTests.{eqb_both}

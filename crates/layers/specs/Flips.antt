@@ -5,7 +5,7 @@ use Rattle.covers.specs.declared.symbol.Symbol.TheVariants.{Zero, One, Dash}
 use Rattle.covers.specs.Digits.{digit}
 use Rattle.covers.specs.Words.{symbol_at}
 use Rattle.rows.specs.declared.row.Row.{Row}
-use Rattle.device.specs.MadeRows.{row_made}
+use Rattle.rows.specs.MadeRows.{row_made}
 use Rattle.device.specs.Levels.{Carrying}
 
 -- the digits at the marked places exchanged, of which the last n count

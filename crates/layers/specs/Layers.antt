@@ -6,8 +6,7 @@ use Rattle.device.specs.Levels.{Carrying, Level, carried_slots}
 
 -- a layer means what the device below means, each row carried back
 abbrev pub layer_state : (ℕ → Carrying) → DeviceState → DeviceState
-layer_state carrying s =
-    record { width = s.width; slots = carried_slots (carrying s.width).row_back s.slots; muted = s.muted }
+layer_state carrying s = record s { slots = carried_slots (carrying s.width).row_back s.slots }
 
 -- a number goes down carried, or as it is if it lies outside the width
 abbrev pub number_below : (ℕ → Carrying) → DeviceState → ℕ → ℕ

@@ -5,7 +5,7 @@ use Rattle.covers.specs.Words.{value_word, care_word}
 use Rattle.covers.specs.Rivals.{Rival}
 use Rattle.rows.specs.declared.row.Row.{Row}
 use Rattle.device.specs.States.{DeviceState, some_slot_takes}
-use Rattle.device.specs.MadeRows.{row_made}
+use Rattle.rows.specs.MadeRows.{row_made}
 use Rattle.device.specs.SymbolLaws.{rows_in}
 use Rattle.rows.specs.Memory.{symbols_of}
 use Rattle.device.specs.Levels.{Level}

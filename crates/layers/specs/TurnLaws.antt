@@ -10,7 +10,7 @@ use Rattle.covers.proofs.Numbers.{length_digits, value_below, value_digits, digi
 use Rattle.covers.proofs.RowWords.{both, digits_and}
 use Rattle.rows.specs.declared.row.Row.{Row}
 use Rattle.device.specs.States.{row_takes}
-use Rattle.device.specs.MadeRows.{row_made}
+use Rattle.rows.specs.MadeRows.{row_made}
 use Rattle.device.specs.Levels.{Carries}
 use Rattle.rows.proofs.SameRows.{row_same}
 use Rattle.layers.specs.EqualTests.{eqb_both}

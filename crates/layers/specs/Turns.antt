@@ -4,7 +4,7 @@ use Rattle.covers.specs.declared.symbol.Symbol.TheVariants.{Dash}
 use Rattle.covers.specs.Digits.{digit, digits, value}
 use Rattle.covers.specs.Words.{symbol_at}
 use Rattle.rows.specs.declared.row.Row.{Row}
-use Rattle.device.specs.MadeRows.{row_made}
+use Rattle.rows.specs.MadeRows.{row_made}
 use Rattle.device.specs.Levels.{Carrying}
 
 -- the last n digits, read from the other end

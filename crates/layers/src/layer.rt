@@ -47,7 +47,7 @@ impl<M: LineMap, D: RowDevice> Layer<M, D> {
 
     // The number as the device below is asked it: carried, unless it lies outside the width.
     fn number_below(&self, number: u64) -> u64
-        ensures value { result ≡ number_below (M.LineMap.carrying self.now.map) (D.RowDevice.state self.now.below) number }
+        ensures value { result ≡ number_below (M.carrying self.now.map) (D.state self.now.below) number }
     {
         let width = self.below.width();
         if check_number(number, width).is_ok() {
@@ -59,7 +59,7 @@ impl<M: LineMap, D: RowDevice> Layer<M, D> {
 
     // The row as it is put below: carried, unless it cares beyond the width.
     fn row_below(&self, row: Row) -> Row
-        ensures value { result ≡ row_below (M.LineMap.carrying self.now.map) (D.RowDevice.state self.now.below) row }
+        ensures value { result ≡ row_below (M.carrying self.now.map) (D.state self.now.below) row }
     {
         let width = self.below.width();
         if check_row(row, width).is_ok() {
@@ -71,7 +71,7 @@ impl<M: LineMap, D: RowDevice> Layer<M, D> {
 
     // A row of the device below as it is read here.
     fn row_above(&self, row: Row) -> Row
-        ensures value { result ≡ (M.LineMap.carrying self.now.map (D.RowDevice.state self.now.below).width).row_back row }
+        ensures value { result ≡ (M.carrying self.now.map (D.state self.now.below).width).row_back row }
     {
         self.map.row_back(self.below.width(), row)
     }
@@ -79,13 +79,13 @@ impl<M: LineMap, D: RowDevice> Layer<M, D> {
 
 #[tactic(auto, using(crate::proofs::Ways::ways_after_put, crate::proofs::Ways::ways_after_empty, crate::proofs::Ways::ways_same))]
 impl<M: LineMap, D: RowDevice> RowDevice for Layer<M, D> {
-    ghost state = { λ l. layer_state (M.LineMap.carrying l.map) (D.RowDevice.state l.below) };
+    ghost state = { λ l. layer_state (M.carrying l.map) (D.state l.below) };
 
-    ghost lawful = { λ l. layer_lawful (M.LineMap.carrying l.map) (D.RowDevice.state l.below) (M.LineMap.carries l.map) (D.RowDevice.lawful l.below) };
+    ghost lawful = { λ l. layer_lawful (M.carrying l.map) (D.state l.below) (M.carries l.map) (D.lawful l.below) };
 
-    ghost levels = { λ l. layer_levels (M.LineMap.carrying l.map) (D.RowDevice.state l.below) (D.RowDevice.levels l.below) };
+    ghost levels = { λ l. layer_levels (M.carrying l.map) (D.state l.below) (D.levels l.below) };
 
-    ghost beneath = { λ l. layer_beneath (M.LineMap.carrying l.map) (D.RowDevice.state l.below) (D.RowDevice.levels l.below) (M.LineMap.carries l.map) (D.RowDevice.lawful l.below) (D.RowDevice.beneath l.below) };
+    ghost beneath = { λ l. layer_beneath (M.carrying l.map) (D.state l.below) (D.levels l.below) (M.carries l.map) (D.lawful l.below) (D.beneath l.below) };
 
     // the map stays, and so does what the device below keeps
     ghost keeps = { λ k written l. (l.map ≡ k.map) × KeptBeside D.RowDevice k.below written l.below };

@@ -10,8 +10,8 @@ use rows::refusal::Refusal;
 // Asks a pile of layers, of any height. At every level beneath, the rows take a carried number exactly when the rows
 // on top take the number, and a rival of those rows, carried back, is a rival on top with as many rows.
 pub fn ask_pile<D: RowDevice>(pile: &D, number: u64) -> Result<bool, Refusal>
-    ensures answer { result ≡ ask_answer (D.RowDevice.state pile.now) number }
-    ensures levels { AllByRecursion (Alike (D.RowDevice.state pile.now)) (D.RowDevice.levels pile.now) }
+    ensures answer { result ≡ ask_answer (D.state pile.now) number }
+    ensures levels { AllByRecursion (Alike (D.state pile.now)) (D.levels pile.now) }
 {
     pile.ask(number)
 }

@@ -1,8 +1,7 @@
 // Piles of layers: what lies on top and at the bottom, and every refusal from below.
-use device::column_table::ColumnTable;
+use column_table::ColumnTable;
 use device::device::RowDevice;
-use device::slot_record::SlotRecord;
-use device::slot_table::SlotTable;
+use device::new_device::NewDevice;
 use layers::flip::Flip;
 use layers::layer::Layer;
 use layers::pile::ask_pile;
@@ -10,6 +9,7 @@ use layers::turn::Turn;
 use rows::refusal::Refusal;
 use rows::row::Row;
 use rows::width::Width;
+use slot_table::{SlotRecord, SlotTable};
 use std::process::Abort;
 use std::test::Fail;
 

@@ -33,7 +33,7 @@ pub struct ShownSlots<'a, D> {
 }
 
 impl<D: RowDevice> fmt::Display for ShownSlots<'_, D> {
-    ghost output = { λ slots. Some (slots_text (D.RowDevice.state slots.device.now)) };
+    ghost output = { λ slots. Some (slots_text (D.state slots.device.now)) };
 
     fn fmt<W: fmt::Write>(&self, f: &mut fmt::Formatter<W>) -> fmt::Result {
         let width = self.device.width();

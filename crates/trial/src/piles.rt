@@ -1,7 +1,5 @@
 // A flip over a turn over a slot table: the rows on top, and what the slots hold at the bottom.
 use device::device::RowDevice;
-use device::slot_record::SlotRecord;
-use device::slot_table::SlotTable;
 use layers::flip::Flip;
 use layers::layer::Layer;
 use layers::pile::ask_pile;
@@ -13,6 +11,7 @@ use rows::row::Row;
 use rows::row_words::RowWords;
 use rows::width::Width;
 use shown::slots::ShownSlots;
+use slot_table::{SlotRecord, SlotTable};
 use std::{fmt, io};
 
 // Puts the rows of a range into the first slots.

@@ -1,5 +1,5 @@
 use Rattle.std.proofs.Common.{◌≡◌, true, drop}
-use Rattle.device.specs.Replays.{answers_to, after_call, after_calls, call_writes, writes_of}
+use Rattle.device.specs.Replays.{answers_to, after_calls, call_writes, device_step, writes_of}
 use Rattle.device.proofs.KeptOn.{KeptSoFar}
 use Rattle.device.proofs.replay.answer_alike.Given as goal
 
@@ -15,5 +15,5 @@ invariant-loop-call g l =
     × (l.alike ≡ true → answers_to a left ≡ answers_to b left → answers_to a0 l.calls ≡ answers_to b0 l.calls)
     × (after_calls a left ≡ after_calls a0 l.calls)
     × (after_calls b left ≡ after_calls b0 l.calls)
-    × KeptSoFar g.A.RowDevice call_writes after_call l.initial.first (writes_of a0 l.calls) l.first a left
-    × KeptSoFar g.B.RowDevice call_writes after_call l.initial.second (writes_of b0 l.calls) l.second b left
+    × KeptSoFar g.A.RowDevice call_writes device_step l.initial.first (writes_of a0 l.calls) l.first a left
+    × KeptSoFar g.B.RowDevice call_writes device_step l.initial.second (writes_of b0 l.calls) l.second b left

@@ -1,6 +1,6 @@
 use Rattle.std.proofs.Common.{◌≡◌, ◌++◌, take, drop}
 use Rattle.device.specs.Exchanges.{calls_of}
-use Rattle.device.specs.Replays.{answered, after_call, after_calls, call_writes, writes_of}
+use Rattle.device.specs.Replays.{answered, after_calls, call_writes, device_step, writes_of}
 use Rattle.device.proofs.KeptOn.{KeptSoFar}
 use Rattle.device.proofs.replay.replay.Given as goal
 
@@ -13,4 +13,4 @@ invariant-loop-exchange g l =
     (drop l.exchange-index l.exchanges ≡ left)
     × (take l.exchange-index l.exchanges ++ answered now left ≡ answered first l.initial.exchanges)
     × (after_calls now (calls_of left) ≡ after_calls first (calls_of l.initial.exchanges))
-    × KeptSoFar g.D.RowDevice call_writes after_call l.initial.device (writes_of first (calls_of l.initial.exchanges)) l.device now (calls_of left)
+    × KeptSoFar g.D.RowDevice call_writes device_step l.initial.device (writes_of first (calls_of l.initial.exchanges)) l.device now (calls_of left)

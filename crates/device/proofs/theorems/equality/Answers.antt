@@ -1,5 +1,5 @@
 use Rattle.device.proofs.Equality.{answer_equality}
 use Rattle.device.proofs.theorems.equality.Goals as goal
 
-pub returns-clause-device_answer : goal.returns-clause-device_answer
-returns-clause-device_answer c = answer_equality
+pub returns : goal.returns
+returns c = record { device_answer = answer_equality }

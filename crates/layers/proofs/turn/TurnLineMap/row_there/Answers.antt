@@ -1,5 +1,5 @@
 use Rattle.std.proofs.Common.{rules}
-use Rattle.device.proofs.Rows.{is_made}
+use Rattle.rows.proofs.MadeRows.{is_made}
 use Rattle.layers.proofs.ByDigits.{turns_symbols}
 use Rattle.layers.proofs.turn.TurnLineMap.row_there.Goals as goal
 

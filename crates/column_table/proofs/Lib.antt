@@ -1,0 +1,3 @@
+pub mod BitSets
+pub mod Columns
+pub mod ColumnTables

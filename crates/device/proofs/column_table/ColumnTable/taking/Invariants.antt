@@ -1,8 +1,0 @@
-use Rattle.std.proofs.Common.{◌≡◌, ℕ, ◌&&◌, ltb}
-use Rattle.covers.specs.Digits.{digit}
-use Rattle.device.proofs.Columns.{admitted}
-use Rattle.device.proofs.column_table.ColumnTable.taking.Given as goal
-
-abbrev pub invariant-loop-place : goal.invariant-loop-place
-invariant-loop-place l =
-    (i : ℕ) → digit i l.slots.bits ≡ (ltb i l.self.count && admitted l.place l.self.columns i l.number)

@@ -1,0 +1,2 @@
+pub mod SlotTables
+pub mod SlotTableLaws
