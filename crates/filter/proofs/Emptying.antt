@@ -9,7 +9,7 @@ use Rattle.device.specs.Answers.{with_slot, after_empty}
 
 -- so many slots emptied from one on
 abbrev pub emptied_slots : DeviceState → ℕ → ℕ → DeviceState
-emptied_slots s from k = record { width = s.width; slots = written s.slots from (replicate k None); muted = s.muted }
+emptied_slots s from k = record s { slots = written s.slots from (replicate k None) }
 
 empty_slot : (s : DeviceState) (slot : ℕ) → slot < length s.slots → after_empty s slot ≡ with_slot s slot None
 empty_slot s slot h = rw (lt-ltb slot (length s.slots) h)
@@ -23,7 +23,7 @@ emptied_more s from slot le h =
     let size = length_written (replicate (slot - from) None) s.slots from (omega arith) in
     let more : slot - from + 1 ≡ slot + 1 - from = omega arith in
     empty_slot (emptied_slots s from (slot - from)) slot (omega arith) ∙
-    ap (λ l. record { width = s.width; slots = l; muted = s.muted })
+    ap (λ l. record s { slots = l })
     (sym (written_one (written s.slots from (replicate (slot - from) None)) slot None (omega arith)) ∙
     ap (λ j. written (written s.slots from (replicate (slot - from) None)) j (None ∷ [])) at ∙
     written_join (replicate (slot - from) None) (None ∷ []) s.slots from (omega arith) ∙
@@ -31,7 +31,7 @@ emptied_more s from slot le h =
 
 -- no slot emptied yet
 pub emptied_none : (s : DeviceState) (from k : ℕ) → 0 ≡ k → s ≡ emptied_slots s from k
-emptied_none s from k e = subst (λ (j : ℕ). s ≡ emptied_slots s from j) e (ap (λ l. record { width = s.width; slots = l; muted = s.muted }) (sym (written_none s.slots from)))
+emptied_none s from k e = subst (λ (j : ℕ). s ≡ emptied_slots s from j) e (ap (λ l. record s { slots = l }) (sym (written_none s.slots from)))
 
 pub emptied_length : (s : DeviceState) (from k : ℕ) → from + k ≤ length s.slots → length (emptied_slots s from k).slots ≡ length s.slots
 emptied_length s from k h = let long = length-replicate {A = Slot} k None in length_written (replicate k None) s.slots from (omega arith)

@@ -1,8 +1,6 @@
-pub mod Placed
+pub mod Laid
 pub mod Emptying
 pub mod Opened
 pub mod Putting
-pub mod PlacedRuns
-pub mod Granted
 pub mod Edited
 pub mod Written

@@ -3,12 +3,18 @@ use Rattle.std.specs.Prelude.{◌≡◌, true, false, Some, None, Option}
 use Rattle.device.specs.declared.device.RowDevice.{Ghosts}
 use Rattle.filter.specs.declared.filter.Filter.{Filter}
 use Rattle.filter.specs.declared.hold_token.HoldToken.{HoldToken}
-use Rattle.filter.specs.Ledger.{Ledger}
 use Rattle.filter.specs.Standing.{Standing}
+use Rattle.ledger.specs.Ledger.{Ledger}
+use Rattle.ledger.specs.Steps.{Step}
 
 -- the filter stands for the ledger: its device, its table, its hold and its tag do
-abbrev pub StandsFor : {D : Type 0} → (d : Ghosts D) → Filter D d → Ledger → Type 0
-StandsFor d f b = Standing (d.state f.device) f.runs f.held f.tag b
+abbrev pub StandsFor : {D : Type 0} → {d : Ghosts D} → Filter D d → Ledger → Type 0
+StandsFor {D} {d} f b = Standing (d.state f.device) f.runs f.held f.tag b
+
+-- the call does what the ledger's does: whichever ledger the filter stood for, it answers as that one, and the filter stands
+-- for its next state
+abbrev pub Follows : {D : Type 0} → {d : Ghosts D} → {A : Type 0} → Filter D d → Step A → A → Filter D d → Type 0
+Follows old step answer new = (b : Ledger) → StandsFor old b → (answer ≡ (step b).0) × StandsFor new (step b).1
 
 -- the token at hand: there is one just while the ledger is marked, and it has the ledger's tag
 abbrev pub AtHand : Ledger → Option HoldToken → Type 0

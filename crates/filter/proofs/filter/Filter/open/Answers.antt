@@ -3,7 +3,7 @@ use Rattle.std.specs.List.{range_with_len}
 use Rattle.device.specs.KeptBeside.{KeptBeside}
 use Rattle.device.specs.KeptBesideLaws.{kept_unwritten}
 use Rattle.device.specs.Answers.{after_mute}
-use Rattle.filter.specs.Ledger.{opened}
+use Rattle.ledger.specs.Ledger.{opened}
 use Rattle.filter.specs.Standing.{Standing}
 use Rattle.filter.proofs.Opened.{stands_opened}
 use Rattle.filter.proofs.filter.Filter.open.Given.{Over}

@@ -1,8 +1,8 @@
 use Rattle.std.proofs.Common.{false}
 use Rattle.std.proofs.Math.Logic.{∥∥₁_map}
-use Rattle.filter.specs.Ledger.{marked}
-use Rattle.filter.proofs.Opened.{stands_muted}
+use Rattle.ledger.specs.Ledger.{freed}
+use Rattle.filter.proofs.Opened.{stands_marked}
 use Rattle.filter.proofs.filter.Filter.release.Goals as goal
 
 pub invariant_of-self : goal.invariant_of-self
-invariant_of-self g c = record { stands = ∥∥₁_map c.args.self.now.stands (λ p. (marked p.0 false, stands_muted _ _ _ _ p.0 p.1 false _ c.mute.ensures.after)) }
+invariant_of-self g c = record { stands = ∥∥₁_map c.args.self.now.stands (λ p. (freed p.0, stands_marked _ _ _ _ p.0 p.1 false _ c.mute.ensures.after)) }
