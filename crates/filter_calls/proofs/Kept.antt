@@ -1,9 +1,7 @@
 -- A filter that stands for a ledger keeps the promise.
-use Rattle.std.proofs.Common.{◌≡◌, ℕ, ◌*◌, ◌^◌, ◌<◌, ◌≤◌, Bool, List, length, sym, ap, ◌∙◌, subst, arith}
+use Rattle.std.proofs.Common.{◌≡◌, ℕ, ◌*◌, ◌^◌, ◌<◌, ◌≤◌, length, sym, ap, ◌∙◌, subst, arith}
 use Rattle.std.proofs.ByRecursion.{All-weaker}
 use Rattle.covers.specs.Rivals.{TakesPrecisely, Shortest, Within}
-use Rattle.circle.proofs.Rows.{rows}
-use Rattle.circle.proofs.Runs.{are_runs}
 use Rattle.run_table.proofs.Tables.{table_few}
 use Rattle.device.specs.declared.device.RowDevice.{Ghosts}
 use Rattle.device.specs.Levels.{Carries, Level, Beneath}
@@ -12,10 +10,11 @@ use Rattle.device.specs.SymbolLaws.{rows_in}
 use Rattle.layers.specs.Piles.{Alike, carried_rows}
 use Rattle.layers.proofs.Rivals.{level_alike}
 use Rattle.filter.specs.declared.filter.Filter.{Filter}
-use Rattle.filter.specs.Ledger.{Ledger, ledger_runs, ledger_rows, marked}
+use Rattle.ledger.specs.Ledger.{Ledger, ledger_runs, ledger_rows}
+use Rattle.ledger.proofs.Rows.{ledger_rows_right}
 use Rattle.filter_calls.specs.Promises.{PromiseBeneath, PromiseKept}
 use Rattle.filter.specs.StandsFor.{StandsFor}
-use Rattle.filter.proofs.Placed.{runs_long, rows_placed, ledger_takes}
+use Rattle.filter.proofs.Laid.{rows_laid, laid_takes}
 
 -- bounds at a level follow from those on top
 module _ (s : DeviceState) (l : Level) (a : Alike s l) where
@@ -33,24 +32,24 @@ module _ (s : DeviceState) (l : Level) (a : Alike s l) where
       let many = a.as_many in
       omega arith
 
-module _ {D : Type 0} (d : Ghosts D) (f : Filter D d) (b : Ledger) (s : StandsFor d f b) where
+module _ {D : Type 0} (d : Ghosts D) (f : Filter D d) (b : Ledger) (s : StandsFor f b) where
   rows_there : rows_in b.width (d.state f.device).slots ≡ ledger_rows b
-  rows_there = ap (rows_in b.width) s.slots ∙ rows_placed b.width b.slots (ledger_rows b) (runs_long b.width (ledger_runs b))
+  rows_there = ap (rows_in b.width) s.slots ∙ rows_laid b
 
   runs_few : length (ledger_runs b) ≤ 16
   runs_few = let e = ap length s.runs in let h = table_few f.runs in omega arith
 
   taken_top : TakesPrecisely b.width (rows_in b.width (d.state f.device).slots) b.numbers
-  taken_top = subst (λ l. TakesPrecisely b.width l b.numbers) (sym rows_there) (rows.exact b.width b.numbers)
+  taken_top = subst (λ l. TakesPrecisely b.width l b.numbers) (sym rows_there) (ledger_rows_right b).exact
 
   shortest_top : length (ledger_runs b) ≡ 1 → Shortest b.width (rows_in b.width (d.state f.device).slots)
-  shortest_top h = subst (Shortest b.width) (sym rows_there) (rows.shortest b.width b.numbers h)
+  shortest_top h = subst (Shortest b.width) (sym rows_there) ((ledger_rows_right b).shortest h)
 
   bounded_top : Within (length (ledger_runs b)) b.width (rows_in b.width (d.state f.device).slots)
-  bounded_top = subst (Within (length (ledger_runs b)) b.width) (sym rows_there) (rows.bounded b.width b.numbers)
+  bounded_top = subst (Within (length (ledger_runs b)) b.width) (sym rows_there) (ledger_rows_right b).bounded
 
   exact_top : (x : ℕ) → x < 2 ^ b.width → some_slot_takes (d.state f.device).slots x ≡ b.numbers x
-  exact_top x h = ledger_takes b (d.state f.device) (d.lawful f.device) s.width s.slots x h
+  exact_top x h = laid_takes b (d.state f.device) (d.lawful f.device) s.width s.slots x h
 
   kept_beneath : (l : Level) → Beneath (d.state f.device) l → PromiseBeneath b l
   kept_beneath l below =
@@ -71,8 +70,9 @@ module _ {D : Type 0} (d : Ghosts D) (f : Filter D d) (b : Ledger) (s : StandsFo
   promise_kept =
       record {
         width = s.width;
-        placed = s.slots;
-        runs = are_runs b.width b.numbers;
+        muted = s.muted;
+        laid = s.slots;
+        runs = (ledger_rows_right b).runs;
         few = runs_few;
         taken = taken_top;
         exact = exact_top;
@@ -80,17 +80,3 @@ module _ {D : Type 0} (d : Ghosts D) (f : Filter D d) (b : Ledger) (s : StandsFo
         bounded = bounded_top;
         beneath = All-weaker (Beneath (d.state f.device)) (PromiseBeneath b) kept_beneath (d.levels f.device) (d.beneath f.device);
       }
-
--- the mark plays no part in it
-pub kept_unmarked : (t : DeviceState) (levels : List Level) (b : Ledger) (mark : Bool) → PromiseKept t levels (marked b mark) → PromiseKept t levels b
-kept_unmarked t levels b mark k = record {
-  width = k.width;
-  placed = k.placed;
-  runs = k.runs;
-  few = k.few;
-  taken = k.taken;
-  exact = k.exact;
-  shortest = k.shortest;
-  bounded = k.bounded;
-  beneath = All-weaker (PromiseBeneath (marked b mark)) (PromiseBeneath b) (λ l p. record { carries = p.carries; exact = p.exact; shortest = p.shortest; bounded = p.bounded }) levels k.beneath;
-}

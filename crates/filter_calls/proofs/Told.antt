@@ -3,12 +3,13 @@ use Rattle.std.proofs.Common.{◌≡◌, ℕ, Bool, true, false, not, ◌&&◌, 
 use Rattle.std.proofs.lemmas.Bool.{eqb-false, ne_eqb}
 use Rattle.filter.specs.declared.hold_token.HoldToken.{HoldToken}
 use Rattle.rows.specs.Refusals.{if_granted}
-use Rattle.filter.specs.Ledger.{Ledger, release_answer, after_release, marked}
+use Rattle.ledger.specs.Ledger.{Ledger, freed}
+use Rattle.ledger.specs.Steps.{release_step}
 use Rattle.filter.specs.StandsFor.{AtHand}
 use Rattle.filter_calls.specs.Replays.{token_has_tag}
 
-pub after_granted_release : (b : Ledger) (tag : ℕ) → Ok tt ≡ release_answer b tag → after_release b tag ≡ marked b false
-after_granted_release b tag e = ap (λ r. if_granted r (marked b false) b) (sym e)
+pub after_granted_release : (b : Ledger) (tag : ℕ) → Ok tt ≡ (release_step tag b).0 → (release_step tag b).1 ≡ freed b
+after_granted_release b tag e = ap (λ r. if_granted r (freed b) b) (sym e)
 
 -- with no token at hand the filter is free
 pub free : (held : Bool) (own : ℕ) (token : Option HoldToken) → token ≡ None → MatchOption token (held ≡ false) (λ t. (held ≡ true) × (t.tag ≡ own)) → held ≡ false

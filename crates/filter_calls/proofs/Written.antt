@@ -1,5 +1,5 @@
 -- What the calls on a filter have written, call by call.
-use Rattle.std.proofs.Common.{◌≡◌, ℕ, true, false, ◌+◌, ◌<◌, List, [], ◌∷◌, ◌++◌, length, take, set, Ok, Err, Result, refl, ap, ◌∙◌, append-nil}
+use Rattle.std.proofs.Common.{◌≡◌, ℕ, true, ◌+◌, ◌<◌, List, [], ◌∷◌, ◌++◌, length, take, set, Ok, Err, Result, refl, ap, ◌∙◌, append-nil}
 use Rattle.std.proofs.lemmas.Grind.{flat_map-append}
 use Rattle.std.proofs.lemmas.List.{take_more_set}
 use Rattle.rows.specs.declared.refusal.Refusal.{Refusal}
@@ -8,10 +8,11 @@ use Rattle.device.specs.declared.device.RowDevice.{Ghosts}
 use Rattle.device.specs.declared.exchange.Exchange.{Exchange}
 use Rattle.device.specs.KeptBeside.{KeptBeside}
 use Rattle.device.specs.KeptBesideLaws.{kept_on}
-use Rattle.filter.specs.Ledger.{Ledger, hold_answer, edit_answer, release_answer, marked, with_edit}
+use Rattle.ledger.specs.Ledger.{Ledger, freed}
+use Rattle.ledger.specs.Steps.{hold_step, edit_step, release_step, with_edit}
 use Rattle.filter_calls.specs.declared.call.FilterCall.{FilterCall}
 use Rattle.filter_calls.specs.declared.call.FilterCall.TheVariants.{Hold, Edit, Release, Ask, ReportSlot, ReportRun}
-use Rattle.filter_calls.specs.Replays.{Answer, after_call, after_calls, answer_writes, answered_writes}
+use Rattle.filter_calls.specs.Replays.{Answer, call_step, after_calls, answer_writes, answered_writes}
 
 -- no call changes the width, or how many slots there are
 pub record SameSize (b c : Ledger) : Type 0 where
@@ -25,17 +26,17 @@ size_granted : {X : Type 0} (r : Result X Refusal) (next b : Ledger) → SameSiz
 size_granted (Ok x) next b e = e
 size_granted (Err x) next b e = same_size b
 
-pub size_stays : (b : Ledger) (call : FilterCall) → SameSize (after_call b call) b
-size_stays b Hold = size_granted (hold_answer b) (marked b true) b (record { width = refl; slots = refl })
-size_stays b (Edit tag e) = size_granted (edit_answer b tag e) (with_edit b e) b (record { width = refl; slots = refl })
-size_stays b (Release tag) = size_granted (release_answer b tag) (marked b false) b (record { width = refl; slots = refl })
+pub size_stays : (b : Ledger) (call : FilterCall) → SameSize (call_step call b).1 b
+size_stays b Hold = size_granted (hold_step b).0 (record b { held = true }) b (record { width = refl; slots = refl })
+size_stays b (Edit tag e) = size_granted (edit_step tag e b).0 (with_edit b e) b (record { width = refl; slots = refl })
+size_stays b (Release tag) = size_granted (release_step tag b).0 (freed b) b (record { width = refl; slots = refl })
 size_stays b (Ask number) = same_size b
 size_stays b (ReportSlot slot) = same_size b
 size_stays b (ReportRun i) = same_size b
 
 pub width_stays : (b : Ledger) (calls : List FilterCall) → (after_calls b calls).width ≡ b.width
 width_stays b [] = refl
-width_stays b (c ∷ calls) = width_stays (after_call b c) calls ∙ (size_stays b c).width
+width_stays b (c ∷ calls) = width_stays (call_step c b).1 calls ∙ (size_stays b c).width
 
 -- one answer more
 pub writes_more : (count : ℕ) (es : List (Exchange FilterCall Answer)) (i : ℕ) (e : Exchange FilterCall Answer) → i < length es →

@@ -10,8 +10,8 @@ use Rattle.filter_calls.specs.declared.call.RefusedCall.{RefusedCall}
 use Rattle.device.specs.declared.exchange.Exchange.{Exchange}
 use Rattle.device.specs.Exchanges.{after_all, answered_all, calls_of}
 use Rattle.filter.specs.declared.hold_token.HoldToken.{HoldToken}
-use Rattle.filter.specs.Ledger.{Ledger, hold_answer, after_hold, edit_answer, after_edit, release_answer, after_release, ask_answer, slot_answer, run_answer}
-use Rattle.filter.specs.SlotReports.{slot_report}
+use Rattle.ledger.specs.Ledger.{Ledger}
+use Rattle.ledger.specs.Steps.{Step, told, hold_step, edit_step, release_step, ask_step, slot_step, full_slot_step, run_step}
 use Rattle.filter.specs.Writes.{all_slots}
 
 -- the answer to a call, or why it was refused
@@ -33,32 +33,23 @@ abbrev pub told_released : Result (Unit {0}) RefusedCall → Answer
 told_released (Ok x) = Ok Released
 told_released (Err e) = Err e
 
--- the ledger's answer to one call; of a slot it knows no row
-abbrev pub ledger_answer : Ledger → FilterCall → Answer
-ledger_answer b Hold = answered_by Token (hold_answer b)
-ledger_answer b (Edit tag e) = answered_by Rows (edit_answer b tag e)
-ledger_answer b (Release tag) = told_released (released_by tag (release_answer b tag))
-ledger_answer b (Ask number) = answered_by Says (ask_answer b number)
-ledger_answer b (ReportSlot slot) = answered_by (λ _. Slot None) (slot_answer b slot)
-ledger_answer b (ReportRun i) = Ok (Run (run_answer b i))
+-- the ledger's step for one call; of a slot it knows no row
+abbrev pub call_step : FilterCall → Step Answer
+call_step Hold = told (answered_by Token) hold_step
+call_step (Edit tag e) = told (answered_by Rows) (edit_step tag e)
+call_step (Release tag) = told (λ r. told_released (released_by tag r)) (release_step tag)
+call_step (Ask number) = told (answered_by Says) (ask_step number)
+call_step (ReportSlot slot) = told (answered_by (λ _. Slot None)) (slot_step slot)
+call_step (ReportRun i) = told (λ run. Ok (Run run)) (run_step i)
 
--- the answer to one call in full: of a slot, the very row that lies in it is told
-abbrev pub full_answer : Ledger → FilterCall → Answer
-full_answer b Hold = ledger_answer b Hold
-full_answer b (Edit tag e) = ledger_answer b (Edit tag e)
-full_answer b (Release tag) = ledger_answer b (Release tag)
-full_answer b (Ask number) = ledger_answer b (Ask number)
-full_answer b (ReportSlot slot) = answered_by Slot (slot_report b slot)
-full_answer b (ReportRun i) = ledger_answer b (ReportRun i)
-
--- the ledger after one call
-abbrev pub after_call : Ledger → FilterCall → Ledger
-after_call b Hold = after_hold b
-after_call b (Edit tag e) = after_edit b tag e
-after_call b (Release tag) = after_release b tag
-after_call b (Ask number) = b
-after_call b (ReportSlot slot) = b
-after_call b (ReportRun i) = b
+-- the same in full: of a slot, the very row that lies in it is told
+abbrev pub full_step : FilterCall → Step Answer
+full_step Hold = call_step Hold
+full_step (Edit tag e) = call_step (Edit tag e)
+full_step (Release tag) = call_step (Release tag)
+full_step (Ask number) = call_step (Ask number)
+full_step (ReportSlot slot) = told (answered_by Slot) (full_slot_step slot)
+full_step (ReportRun i) = call_step (ReportRun i)
 
 -- an answer as it is compared with the ledger's: a slot's row is left out
 abbrev pub without_row : FilterAnswer → FilterAnswer
@@ -80,7 +71,7 @@ token_has_tag (Some token) tag = token.tag == tag
 
 -- the ledger after a list of calls
 abbrev pub after_calls : Ledger → List FilterCall → Ledger
-after_calls = after_all after_call
+after_calls = after_all call_step
 
 -- exchanges as they are compared with the ledger's
 abbrev pub as_compared : List (Exchange FilterCall Answer) → List (Exchange FilterCall Answer)
@@ -88,11 +79,11 @@ as_compared exchanges = map (λ e. record { call = e.call; answer = compared e.a
 
 -- the exchanges with the ledger's answer beside each call
 abbrev pub answered : Ledger → List (Exchange FilterCall Answer) → List (Exchange FilterCall Answer)
-answered b exchanges = answered_all ledger_answer after_call b (calls_of exchanges)
+answered b exchanges = answered_all call_step b (calls_of exchanges)
 
 -- a list of calls, each with its answer in full beside it
 abbrev pub answered_in_full : Ledger → List FilterCall → List (Exchange FilterCall Answer)
-answered_in_full = answered_all full_answer after_call
+answered_in_full = answered_all full_step
 
 -- the slots of a device with so many that a call has put or emptied: where an edit was granted, and so a row count told,
 -- each slot once; else none

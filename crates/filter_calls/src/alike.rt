@@ -1,6 +1,6 @@
 // Two filters over different devices, given the same calls.
-ghost use Rattle.std.specs.Prelude.{◌≡◌, false, length};
-ghost use Rattle.filter_calls.specs.Promises.{Promise};
+ghost use Rattle.std.specs.Prelude.{◌≡◌, length};
+ghost use Rattle.filter_calls.specs.Promises.{PromiseClosed};
 ghost use Rattle.filter_calls.specs.Replays.{replay_writes};
 ghost use Rattle.device.specs.Exchanges.{calls_of};
 ghost use Rattle.device.specs.KeptBeside.{KeptBeside};
@@ -18,14 +18,17 @@ pub fn answer_alike<A: RowDevice, B: RowDevice>(
     exchanges: &mut [FilterExchange],
     beside: &mut [FilterExchange],
 ) -> (A, B)
-    ensures alike { (A.RowDevice.state first).width ≡ (B.RowDevice.state second).width → length (A.RowDevice.state first).slots ≡ length (B.RowDevice.state second).slots → calls_of exchanges.old ≡ calls_of beside.old → exchanges.new ≡ beside.new }
-    ensures first_promise { Promise (A.RowDevice.state first) tag exchanges.old exchanges.new (A.RowDevice.state result.0) (A.RowDevice.levels result.0) }
-    ensures second_promise { Promise (B.RowDevice.state second) tag beside.old beside.new (B.RowDevice.state result.1) (B.RowDevice.levels result.1) }
+    ensures alike { (A.state first).width ≡ (B.state second).width →
+        length (A.state first).slots ≡ length (B.state second).slots →
+        calls_of exchanges.old ≡ calls_of beside.old → exchanges.new ≡ beside.new }
+    ensures first_promise { PromiseClosed (A.state first) tag exchanges.old exchanges.new
+        (A.state result.0) (A.levels result.0) }
+    ensures second_promise { PromiseClosed (B.state second) tag beside.old beside.new
+        (B.state result.1) (B.levels result.1) }
     ensures first_beside { KeptBeside A.RowDevice first
         (replay_writes (length (A.state first).slots) exchanges.new) result.0 }
     ensures second_beside { KeptBeside B.RowDevice second
         (replay_writes (length (B.state second).slots) beside.new) result.1 }
-    ensures mutes_off { ((A.RowDevice.state result.0).muted ≡ false) × ((B.RowDevice.state result.1).muted ≡ false) }
 {
     let first = replay_and_close(first, tag, exchanges);
     let second = replay_and_close(second, tag, beside);

@@ -1,14 +1,14 @@
 // Calls to a filter as values, and their answers.
 ghost use Rattle.std.specs.Prelude.{◌≡◌, None, Ok};
-ghost use Rattle.run_table.specs.declared.edit.Edit.TheVariants.{Add, Drop};
+ghost use Rattle.rows.specs.declared.edit.Edit.TheVariants.{Add, Drop};
 ghost use Rattle.filter_calls.specs.declared.call.FilterCall.TheVariants.{Edit as edit_call};
 ghost use Rattle.filter_calls.specs.declared.call.FilterAnswer.TheVariants.{Released};
 
 use device::exchange::Exchange;
+use rows::edit::Edit;
 use rows::range::Range;
 use rows::refusal::Refusal;
 use rows::row::Row;
-use run_table::edit::Edit;
 
 // A call to a filter; a token that it shows is told by its tag.
 // Calls are values, and not closures, since the promise is over every list of them, and a trial prints them.

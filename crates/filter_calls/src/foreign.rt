@@ -1,7 +1,7 @@
 // Another filter, held for the token of its tag.
-ghost use Rattle.std.specs.Prelude.{◌≡◌, [], true, false};
+ghost use Rattle.std.specs.Prelude.{◌≡◌, [], true};
 ghost use Rattle.device.specs.KeptBeside.{KeptBeside};
-ghost use Rattle.filter.specs.Ledger.{Ledger};
+ghost use Rattle.ledger.specs.Ledger.{Ledger, freed};
 ghost use Rattle.filter.specs.StandsFor.{StandsFor};
 ghost use Rattle.filter_calls.specs.Promises.{PromiseKept};
 
@@ -27,11 +27,10 @@ impl<D: RowDevice> HeldFilter<D> {
         HeldFilter { filter, token }
     }
 
-    // Releases the filter with its token, and gives its device back, its mute off.
+    // Releases the filter with its token, and gives its device back.
     pub(super) fn let_go(self) -> D
-        ensures kept { (b : Ledger) → StandsFor D.RowDevice self.filter b →
-            PromiseKept (D.state result) (D.levels result) b }
-        ensures mute_off { (D.state result).muted ≡ false }
+        ensures kept { (b : Ledger) → StandsFor self.filter b →
+            PromiseKept (D.state result) (D.levels result) (freed b) }
         ensures beside { KeptBeside D.RowDevice self.filter.device [] result }
     {
         let HeldFilter { filter, token } = self;

@@ -7,6 +7,7 @@ pub mod closing;
 mod foreign;
 pub mod layered;
 pub mod lent;
+mod no_slots;
 mod player;
 pub mod replay;
 pub mod slots;

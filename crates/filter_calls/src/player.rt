@@ -4,12 +4,12 @@ ghost use Rattle.std.proofs.Props.{props};
 
 use super::call::{FilterAnswer, FilterCall, RefusedCall};
 use super::foreign::HeldFilter;
-use device::column_table::ColumnTable;
+use super::no_slots::NoSlots;
 use device::device::RowDevice;
 use filter::filter::Filter;
 use filter::hold_token::{HoldToken, RefusedRelease};
+use rows::edit::Edit;
 use rows::refusal::Refusal;
-use run_table::edit::Edit;
 
 // A filter, and the token that is at hand: there is one just while the filter is held.
 pub(super) struct Player<D: RowDevice> {
@@ -19,17 +19,18 @@ pub(super) struct Player<D: RowDevice> {
 }
 
 impl<D: RowDevice> Player<D> {
-    ghost use Rattle.filter.specs.Ledger.{Ledger, hold_answer, after_hold, edit_answer, after_edit, release_answer, after_release};
-    ghost use Rattle.filter.specs.StandsFor.{StandsFor};
+    ghost use Rattle.ledger.specs.Ledger.{Ledger, freed};
+    ghost use Rattle.ledger.specs.Steps.{hold_step, edit_step, release_step, told};
+    ghost use Rattle.filter.specs.StandsFor.{Follows, StandsFor};
     ghost use Rattle.filter.specs.Writes.{edit_writes};
     ghost use Rattle.device.specs.KeptBeside.{KeptBeside};
     ghost use Rattle.filter_calls.specs.Promises.{PromiseKept};
-    ghost use Rattle.filter_calls.specs.Replays.{after_call, answer_writes, compared, full_answer, ledger_answer, released_by, token_has_tag};
+    ghost use Rattle.filter_calls.specs.Replays.{answer_writes, call_step, compared, full_step, released_by, token_has_tag};
 
     // Makes one call.
     pub(super) fn perform(&mut self, call: FilterCall) -> Result<FilterAnswer, RefusedCall>
-        ensures step { (b : Ledger) → StandsFor D.RowDevice self.old.filter b → (compared result ≡ ledger_answer b call) × StandsFor D.RowDevice self.new.filter (after_call b call) }
-        ensures in_full { (b : Ledger) → StandsFor D.RowDevice self.old.filter b → result ≡ full_answer b call }
+        ensures step { Follows self.old.filter (call_step call) (compared result) self.new.filter }
+        ensures in_full { Follows self.old.filter (full_step call) result self.new.filter }
         ensures beside { KeptBeside D.RowDevice self.old.filter.device
             (answer_writes (length (D.state self.old.filter.device).slots) result)
             self.new.filter.device }
@@ -61,7 +62,7 @@ impl<D: RowDevice> Player<D> {
 
     // Holds the filter, keeps the token, and tells its tag.
     fn hold(&mut self) -> Result<u64, Refusal>
-        ensures step { (b : Ledger) → StandsFor D.RowDevice self.old.filter b → (result ≡ hold_answer b) × StandsFor D.RowDevice self.new.filter (after_hold b) }
+        ensures step { Follows self.old.filter hold_step result self.new.filter }
         ensures beside { KeptBeside D.RowDevice self.old.filter.device [] self.new.filter.device }
     {
         let token = self.filter.hold()?;
@@ -75,7 +76,7 @@ impl<D: RowDevice> Player<D> {
 
     // Shows a token of this tag for an edit: the one at hand if it has the tag, else that of another filter.
     fn edit(&mut self, tag: u64, edit: Edit) -> Result<usize, Refusal>
-        ensures step { (b : Ledger) → StandsFor D.RowDevice self.old.filter b → (result ≡ edit_answer b tag edit) × StandsFor D.RowDevice self.new.filter (after_edit b tag edit) }
+        ensures step { Follows self.old.filter (edit_step tag edit) result self.new.filter }
         ensures beside { KeptBeside D.RowDevice self.old.filter.device
             (edit_writes result (length (D.state self.old.filter.device).slots))
             self.new.filter.device }
@@ -83,7 +84,7 @@ impl<D: RowDevice> Player<D> {
         if let Some(token) = self.token.as_ref().filter(|token| token.tag() == tag) {
             return self.filter.edit(token, edit);
         }
-        let another = HeldFilter::open(ColumnTable::new(self.filter.width(), 0), tag);
+        let another = HeldFilter::open(NoSlots::new(self.filter.width()), tag);
         let answer = self.filter.edit(&another.token, edit);
         let _ = another.let_go();
         answer
@@ -91,7 +92,8 @@ impl<D: RowDevice> Player<D> {
 
     // Shows a token of this tag for a release: the one at hand if it has the tag, else that of another filter.
     fn release(&mut self, tag: u64) -> Result<(), RefusedCall>
-        ensures step { (b : Ledger) → StandsFor D.RowDevice self.old.filter b → (result ≡ released_by tag (release_answer b tag)) × StandsFor D.RowDevice self.new.filter (after_release b tag) }
+        ensures step { Follows self.old.filter (told (released_by tag) (release_step tag)) result
+            self.new.filter }
         ensures beside { KeptBeside D.RowDevice self.old.filter.device [] self.new.filter.device }
     {
         match self.token.take_if(|token| token.tag() == tag) {
@@ -106,13 +108,14 @@ impl<D: RowDevice> Player<D> {
     // Shows the token of another filter for a release: it is refused, and hands the token back.
     fn release_with_another(&mut self, tag: u64) -> RefusedCall
         requires not_at_hand { token_has_tag self.old.token tag ≡ false }
-        ensures step { (b : Ledger) → StandsFor D.RowDevice self.old.filter b → (Err result ≡ released_by tag (release_answer b tag)) × StandsFor D.RowDevice self.new.filter (after_release b tag) }
+        ensures step { Follows self.old.filter (told (released_by tag) (release_step tag)) (Err result)
+            self.new.filter }
         ensures beside { KeptBeside D.RowDevice self.old.filter.device [] self.new.filter.device }
     {
         let HeldFilter {
             filter: other,
             token,
-        } = HeldFilter::open(ColumnTable::new(self.filter.width(), 0), tag);
+        } = HeldFilter::open(NoSlots::new(self.filter.width()), tag);
         let RefusedRelease { refusal, token } = self.filter.release(token).unwrap_err();
         let handed_back = Some(token.tag());
         let another = HeldFilter {
@@ -126,10 +129,10 @@ impl<D: RowDevice> Player<D> {
         }
     }
 
-    // Releases the filter if it is held, and gives its device back, its mute off.
+    // Releases the filter if it is held, and gives its device back.
     pub(super) fn close(self) -> D
-        ensures kept { (b : Ledger) → StandsFor D.RowDevice self.filter b → PromiseKept (D.RowDevice.state result) (D.RowDevice.levels result) b }
-        ensures mute_off { (D.RowDevice.state result).muted ≡ false }
+        ensures kept { (b : Ledger) → StandsFor self.filter b →
+            PromiseKept (D.state result) (D.levels result) (freed b) }
         ensures beside { KeptBeside D.RowDevice self.filter.device [] result }
     {
         let Player { filter, token } = self;

@@ -21,9 +21,10 @@ pub struct Replayed<D: RowDevice> {
 // call that shows a token is given the one at hand if it has the tag, else that of another filter, opened with the tag
 // and held.
 pub fn replay<D: RowDevice>(device: D, tag: u64, exchanges: &mut [FilterExchange]) -> Replayed<D>
-    ensures promise { Promise (D.RowDevice.state device) tag exchanges.old exchanges.new (D.RowDevice.state result.filter.device) (D.RowDevice.levels result.filter.device) }
-    ensures stands { StandsFor D.RowDevice result.filter (last_ledger (D.RowDevice.state device) tag exchanges.old) }
-    ensures token { AtHand (last_ledger (D.RowDevice.state device) tag exchanges.old) result.token }
+    ensures promise { Promise (D.state device) tag exchanges.old exchanges.new
+        (D.state result.filter.device) (D.levels result.filter.device) }
+    ensures stands { StandsFor result.filter (last_ledger (D.state device) tag exchanges.old) }
+    ensures token { AtHand (last_ledger (D.state device) tag exchanges.old) result.token }
     ensures beside { KeptBeside D.RowDevice device
         (replay_writes (length (D.state device).slots) exchanges.new) result.filter.device }
 {
@@ -33,9 +34,10 @@ pub fn replay<D: RowDevice>(device: D, tag: u64, exchanges: &mut [FilterExchange
 
 // The same, and gives back what made the calls.
 pub(super) fn play<D: RowDevice>(device: D, tag: u64, exchanges: &mut [FilterExchange]) -> Player<D>
-    ensures promise { Promise (D.RowDevice.state device) tag exchanges.old exchanges.new (D.RowDevice.state result.filter.device) (D.RowDevice.levels result.filter.device) }
-    ensures stands { StandsFor D.RowDevice result.filter (last_ledger (D.RowDevice.state device) tag exchanges.old) }
-    ensures token { AtHand (last_ledger (D.RowDevice.state device) tag exchanges.old) result.token }
+    ensures promise { Promise (D.state device) tag exchanges.old exchanges.new
+        (D.state result.filter.device) (D.levels result.filter.device) }
+    ensures stands { StandsFor result.filter (last_ledger (D.state device) tag exchanges.old) }
+    ensures token { AtHand (last_ledger (D.state device) tag exchanges.old) result.token }
     ensures beside { KeptBeside D.RowDevice device
         (replay_writes (length (D.state device).slots) exchanges.new) result.filter.device }
 {

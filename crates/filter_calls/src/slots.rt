@@ -1,6 +1,6 @@
 // What holds of every filter at any time, and so of one whose calls were made by hand.
 ghost use Rattle.std.specs.Prelude.{◌≡◌, length};
-ghost use Rattle.filter.specs.Ledger.{Ledger};
+ghost use Rattle.ledger.specs.Ledger.{Ledger};
 ghost use Rattle.filter.specs.StandsFor.{StandsFor};
 ghost use Rattle.filter_calls.specs.Promises.{PromiseKept};
 
@@ -12,7 +12,7 @@ use filter::filter::Filter;
 #[tactic(auto, using(crate::proofs::Kept::promise_kept))]
 pub fn slots_kept<D: RowDevice>(filter: &Filter<D>) -> usize
     ensures count { result ≡ length (D.state filter.now.device).slots }
-    ensures kept { (b : Ledger) → StandsFor D.RowDevice filter.now b →
+    ensures kept { (b : Ledger) → StandsFor filter.now b →
         PromiseKept (D.state filter.now.device) (D.levels filter.now.device) b }
 {
     filter.slot_count()

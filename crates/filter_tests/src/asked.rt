@@ -3,8 +3,9 @@ ghost use Rattle.device.specs.KeptBeside.{KeptBeside};
 ghost use Rattle.device.specs.KeptBesideLaws.{kept_at_rest, kept_on};
 
 use super::calls::TAG;
-use device::column_table::ColumnTable;
+use column_table::ColumnTable;
 use device::device::RowDevice;
+use device::new_device::NewDevice;
 use filter::filter::Filter;
 use rows::range::Range;
 use rows::refusal::Refusal;
@@ -21,13 +22,13 @@ struct Asked<D> {
 }
 
 impl<D: RowDevice> RowDevice for Asked<D> {
-    ghost state = { λ a. D.RowDevice.state a.below };
+    ghost state = { λ a. D.state a.below };
 
-    ghost lawful = { λ a. D.RowDevice.lawful a.below };
+    ghost lawful = { λ a. D.lawful a.below };
 
-    ghost levels = { λ a. D.RowDevice.levels a.below };
+    ghost levels = { λ a. D.levels a.below };
 
-    ghost beneath = { λ a. D.RowDevice.beneath a.below };
+    ghost beneath = { λ a. D.beneath a.below };
 
     ghost keeps = { λ a written e. KeptBeside D.RowDevice a.below written e.below };
 

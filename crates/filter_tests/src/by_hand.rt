@@ -1,6 +1,7 @@
 // A filter whose calls are made by hand, and what its slots then hold.
 use super::calls::TAG;
-use device::column_table::ColumnTable;
+use column_table::ColumnTable;
+use device::new_device::NewDevice;
 use filter::filter::Filter;
 use filter_calls::slots::slots_kept;
 use rows::range::Range;

@@ -1,8 +1,9 @@
 // Filters that are closed after their calls: what the device holds then.
 use super::calls::TAG;
 use super::edits::seventeen_runs;
-use device::column_table::ColumnTable;
+use column_table::ColumnTable;
 use device::device::RowDevice;
+use device::new_device::NewDevice;
 use filter_calls::call::FilterCall;
 use filter_calls::closing::replay_and_close;
 use filter_calls::replay::{Replayed, replay};

@@ -1,7 +1,8 @@
 // Edits: joined runs, the whole circle, too many runs, too many rows.
 use super::calls::{TAG, answered, refused, run};
-use device::column_table::ColumnTable;
+use column_table::ColumnTable;
 use device::device::RowDevice;
+use device::new_device::NewDevice;
 use filter_calls::call::{FilterAnswer, FilterCall, FilterExchange};
 use filter_calls::closing::replay_and_close;
 use rows::range::Range;

@@ -1,16 +1,17 @@
 // Replays told by the maps and the device below: one layer, a device that is lent, records that are lent.
 use super::calls::TAG;
-use device::column_table::ColumnTable;
+use column_table::ColumnTable;
 use device::device::RowDevice;
-use device::slot_record::SlotRecord;
+use device::new_device::NewDevice;
 use filter_calls::call::{FilterAnswer, FilterCall, FilterExchange};
 use filter_calls::layered::replay_over_layer;
-use filter_calls::lent::{replay_on_lent, replay_on_records};
+use filter_calls::lent::replay_on_lent;
 use layers::flip::Flip;
 use layers::turn::Turn;
 use rows::range::Range;
 use rows::row::Row;
 use rows::width::Width;
+use slot_table::{SlotRecord, SlotTable};
 use std::test::Fail;
 
 // A hold, and the numbers 1 to 3 of four digits: the rows 001- and 0001.
@@ -55,7 +56,10 @@ fn lent_records_come_back_as_those_of_the_slots(rt: HostRuntime) -> Result<(), F
     let mut records = [mark; 121];
     let flip = Flip { mask: 0b1000 };
     let width = Width::try_from(4)?;
-    replay_on_records(flip, Turn, width, &mut records, TAG, &mut one_to_three());
+    {
+        let mut table = SlotTable::new(width, &mut records);
+        replay_on_lent(flip, Turn, &mut table, TAG, &mut one_to_three());
+    }
     assert_eq!(rt; records[0], SlotRecord::from(Row::new(0b0101, 0b0111)));
     assert_eq!(rt; records[1], SlotRecord::from(Row::new(0b1001, 0b1111)));
     assert_eq!(rt; records[2], SlotRecord::EMPTY);

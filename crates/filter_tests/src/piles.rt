@@ -1,7 +1,8 @@
 // The same through a pile of layers.
 use super::calls::{TAG, refused, run};
-use device::column_table::ColumnTable;
+use column_table::ColumnTable;
 use device::device::RowDevice;
+use device::new_device::NewDevice;
 use filter_calls::alike::answer_alike;
 use filter_calls::call::{FilterAnswer, FilterCall};
 use filter_calls::closing::replay_and_close;

@@ -1,12 +1,11 @@
 // Holds, tokens, and questions to a filter that is held.
 use super::calls::{answered, not_released, refused};
-use device::slot_record::SlotRecord;
-use device::slot_table::SlotTable;
 use filter_calls::call::{FilterAnswer, FilterCall};
 use filter_calls::closing::replay_and_close;
 use rows::range::Range;
 use rows::refusal::Refusal;
 use rows::width::Width;
+use slot_table::{SlotRecord, SlotTable};
 use std::test::Fail;
 
 #[test]

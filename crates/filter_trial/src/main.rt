@@ -1,6 +1,7 @@
 // A printed account of filters over several devices: the calls and answers, and what the slots hold afterwards.
 #![tactic(auto)]
 
+mod records;
 mod replays;
 mod talk;
 

@@ -1,12 +1,11 @@
 // Calls replayed on filters over several devices: the answers, and what the slots hold afterwards.
+use super::records::replay_on_records;
 use super::talk::{ShownAnswers, ShownCall, ShownRecord};
-use device::column_table::ColumnTable;
-use device::slot_record::SlotRecord;
-use device::slot_table::SlotTable;
+use column_table::ColumnTable;
+use device::new_device::NewDevice;
 use filter_calls::alike::answer_alike;
 use filter_calls::call::{FilterAnswer, FilterCall, FilterExchange};
 use filter_calls::layered::replay_over_layers;
-use filter_calls::lent::replay_on_records;
 use filter_calls::replay::{Replayed, replay};
 use layers::flip::Flip;
 use layers::layer::Layer;
@@ -14,6 +13,7 @@ use layers::turn::Turn;
 use rows::range::Range;
 use rows::width::Width;
 use shown::slots::ShownSlots;
+use slot_table::{SlotRecord, SlotTable};
 use std::io;
 
 // The tag of every filter here.

@@ -1,12 +1,12 @@
 // Calls to a filter and their answers, in words.
-use device::slot_record::SlotRecord;
 use filter_calls::call::{FilterAnswer, FilterCall, RefusedCall};
+use rows::edit::Edit;
 use rows::range::Range;
 use rows::width::Width;
-use run_table::edit::Edit;
 use shown::range::ShownRange;
 use shown::row_count::RowCount;
 use shown::slots::ShownSlot;
+use slot_table::SlotRecord;
 use std::fmt;
 
 // A call to a filter.

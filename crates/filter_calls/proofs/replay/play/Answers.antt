@@ -5,7 +5,7 @@ use Rattle.device.specs.declared.exchange.Exchange.{Exchange}
 use Rattle.device.specs.Exchanges.{calls_of}
 use Rattle.filter_calls.specs.declared.call.FilterCall.{FilterCall}
 use Rattle.filter_calls.specs.Promises.{first_ledger, last_ledger}
-use Rattle.filter_calls.specs.Replays.{Answer, after_call, answer_writes, answered_in_full, after_calls, as_compared, answered_writes, full_answer}
+use Rattle.filter_calls.specs.Replays.{Answer, call_step, answer_writes, answered_in_full, after_calls, as_compared, answered_writes, full_step}
 use Rattle.device.specs.KeptBeside.{KeptBeside}
 use Rattle.device.specs.KeptBesideLaws.{kept_on}
 use Rattle.device.proofs.Plays.{after_more_exchanges, answered_more}
@@ -15,7 +15,7 @@ use Rattle.filter.proofs.Edited.{slots_known}
 use Rattle.filter_calls.proofs.Written.{kept_call, size_stays}
 use Rattle.filter_calls.proofs.Kept.{promise_kept}
 use Rattle.filter_calls.proofs.Told.{at_hand}
-use Rattle.filter_calls.proofs.ToldInFull.{answered_compared}
+use Rattle.filter_calls.proofs.ToldInFull.{answered_compared, same_next}
 use Rattle.filter_calls.proofs.replay.play.Goals as goal
 
 pub loop-exchange-preserved : goal.loop-exchange-preserved
@@ -32,15 +32,15 @@ loop-exchange-preserved g c = λ first s.
     let b = inv.0 in
     let call = (get_or es i item).call in
     let h : i < length es = omega arith in
-    let next = after_call b call in
+    let next = (call_step call b).1 in
     let step = p.ensures.step b inv.1 in
     let count = slots_known d f b inv.1 ∙ inv.5 in
     let written = subst (λ (k : ℕ). KeptBeside d f.device (answer_writes k p.result) p.new.self.filter.device) count p.ensures.beside in (
       next,
       step.1,
       grind (arith, common_steps),
-      answered_more full_answer after_call b next es was i item inv.2 h c.exchange-item.is refl p.result (p.ensures.in_full b inv.1) ∙ inv.3,
-      after_more_exchanges full_answer after_call b next es was i item inv.2 h c.exchange-item.is refl ∙ inv.4,
+      answered_more full_step b next es was i item inv.2 h c.exchange-item.is (sym (same_next b call)) p.result (p.ensures.in_full b inv.1).0 ∙ inv.3,
+      after_more_exchanges call_step b next es was i item inv.2 h c.exchange-item.is refl ∙ inv.4,
       (size_stays b call).slots ∙ inv.5,
       kept_call d start f.device p.new.self.filter.device first.slots es i (record { call = call; answer = p.result }) h inv.6 written,
     )
@@ -58,7 +58,7 @@ returns g c =
     let none = drop_all i was c.loop-exchange-test.false in
     let h : length es ≤ i = omega arith in
     let last = sym (ap (λ (l : List (Exchange FilterCall Answer)). after_calls b (calls_of l)) none) ∙ inv.4 in
-    let stands = subst (StandsFor d f) last inv.1 in
+    let stands = subst (StandsFor f) last inv.1 in
     let full = sym (ap (λ (l : List (Exchange FilterCall Answer)). take i es ++ answered_in_full b (calls_of l)) none ∙ append-nil (take i es) ∙ take_all i es h) ∙ inv.3 in
     record {
       promise = record {

@@ -1,13 +1,11 @@
 use Rattle.device.specs.KeptBeside.{KeptBeside}
 use Rattle.device.specs.KeptBesideLaws.{kept_at_rest}
-use Rattle.std.proofs.Common.{false, [], sym, ap, ◌∙◌, subst}
-use Rattle.std.proofs.Math.Logic.{∥∥₁_elim}
-use Rattle.std.proofs.Props.{props}
+use Rattle.std.proofs.Common.{[], sym, ap, ◌∙◌, subst}
 use Rattle.filter.specs.Compared.{refusal_of}
-use Rattle.filter.specs.Ledger.{Ledger, marked}
+use Rattle.ledger.specs.Ledger.{Ledger, freed}
 use Rattle.filter.specs.StandsFor.{StandsFor}
 use Rattle.filter_calls.specs.Promises.{PromiseKept}
-use Rattle.filter_calls.proofs.Kept.{kept_unmarked, promise_kept}
+use Rattle.filter_calls.proofs.Kept.{promise_kept}
 use Rattle.filter_calls.proofs.Told.{after_granted_release, free}
 use Rattle.filter_calls.proofs.player.Player.close.Goals as goal
 use Rattle.filter_calls.proofs.player.Player.close.Goals.{in-Some, in_default}
@@ -19,22 +17,21 @@ returns g c =
     let last = c.match-token.filter in
     let device = c.into_device.ensures.device in
     -- the last filter stands for the ledger without its mark
-    let released : (b : Ledger) → StandsFor d own b → StandsFor d last (marked b false) = λ b s. elim c.match-token.branch [
+    let released : (b : Ledger) → StandsFor own b → StandsFor last (freed b) = λ b s. elim c.match-token.branch [
       | in-Some w ↦
           let step = w.release.ensures.step b s in
           let after = after_granted_release b w.in-Some.token.tag (sym (ap refusal_of w.unwrap.ensures) ∙ step.0) in
-          subst (λ f. StandsFor d f (marked b false)) (sym w.filter-is) (subst (StandsFor d w.release.new.self) after step.1)
+          subst (λ f. StandsFor f (freed b)) (sym w.filter-is) (subst (StandsFor w.release.new.self) after step.1)
       | in_default w ↦
           let is_free = free own.held own.tag c.args.self.token w.in_default.is c.args.self.at_hand in
-          let unmarked : StandsFor d own (marked b false) = record { width = s.width; muted = s.muted ∙ sym s.held ∙ is_free; held = is_free; tag = s.tag; runs = s.runs; fit = s.fit; slots = s.slots } in
-          subst (λ f. StandsFor d f (marked b false)) (sym w.filter-is) unmarked
+          let unmarked : StandsFor own (freed b) = record { width = s.width; muted = s.muted ∙ sym s.held ∙ is_free; held = is_free; tag = s.tag; runs = s.runs; fit = s.fit; slots = s.slots } in
+          subst (λ f. StandsFor f (freed b)) (sym w.filter-is) unmarked
     ] in
     let beside : KeptBeside d own.device [] last.device = elim c.match-token.branch [
       | in-Some w ↦ subst (λ f. KeptBeside d own.device [] f.device) (sym w.filter-is) w.release.ensures.beside
       | in_default w ↦ subst (λ f. KeptBeside d own.device [] f.device) (sym w.filter-is) (kept_at_rest d own.device)
     ] in
     record {
-      kept = λ b s. kept_unmarked _ _ b false (subst (λ v. PromiseKept (d.state v) (d.levels v) (marked b false)) (sym device) (promise_kept d last (marked b false) (released b s)));
-      mute_off = ap (λ v. (d.state v).muted) device ∙ ∥∥₁_elim own.stands (Prim.hlevel props) (λ p. (released p.0 p.1).muted);
+      kept = λ b s. subst (λ v. PromiseKept (d.state v) (d.levels v) (freed b)) (sym device) (promise_kept d last (freed b) (released b s));
       beside = subst (KeptBeside d own.device []) (sym device) beside;
     }

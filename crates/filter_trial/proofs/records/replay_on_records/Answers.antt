@@ -1,10 +1,10 @@
 use Rattle.std.proofs.Common.{◌≡◌, [], List, ◌++◌, map, sym, ap, ap₂, ◌∙◌, subst, rules}
-use Rattle.device.specs.declared.slot_record.SlotRecord.{SlotRecord}
+use Rattle.slot_table.specs.declared.record.SlotRecord.{SlotRecord}
 use Rattle.device.specs.States.{DeviceState}
-use Rattle.device.specs.SlotTables.{OfItsSlots, memory_with, record_of, records_of, slot_table_state}
+use Rattle.slot_table.specs.SlotTables.{OfItsSlots, memory_with, record_of, records_of, slot_table_state}
 use Rattle.layers.specs.Layers.{layer_levels, layer_state}
-use Rattle.filter_calls.specs.Promises.{Promise}
-use Rattle.filter_calls.proofs.lent.replay_on_records.Goals as goal
+use Rattle.filter_calls.specs.Promises.{PromiseClosed}
+use Rattle.filter_trial.proofs.records.replay_on_records.Goals as goal
 
 from_there : (x y z : List SlotRecord) → y ≡ z → x ≡ y → x ≡ z
 from_there x y z e h = h ∙ e
@@ -28,7 +28,7 @@ returns g c =
       last_table = (
         t,
         from_there _ last.records.now _ memory (search (rules, name)),
-        subst (λ (s : DeviceState). Promise (layer_state outer (layer_state inner s)) c.args.tag c.args.exchanges.now c.replay_on_lent.new.exchanges
+        subst (λ (s : DeviceState). PromiseClosed (layer_state outer (layer_state inner s)) c.args.tag c.args.exchanges.now c.replay_on_lent.new.exchanges
             (layer_state outer (layer_state inner t)) (layer_levels outer (layer_state inner t) (layer_levels inner t [])))
             begins c.replay_on_lent.ensures.promise,
       );
