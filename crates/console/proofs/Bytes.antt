@@ -2,6 +2,7 @@
 use Rattle.std.proofs.Common.{◌≡◌, ℕ, Bool, true, false, cond, eqb, List, [], ◌∷◌, ◌++◌, length, sym, refl, ap, ◌∙◌, subst, append_assoc, append-nil}
 use Rattle.std.proofs.lemmas.Bool.{eqb-false}
 use Rattle.lines.specs.Buffers.{buffered, kept}
+use Rattle.device.specs.declared.device.RowDevice.{Ghosts}
 use Rattle.console.specs.declared.session.Session.{Session}
 use Rattle.console.specs.Sessions.{Stage, closed, left_open, at_end, LineAnswered, LinesAnswered}
 use Rattle.console.specs.SessionStands.{SessionStands, LineClosed, BytesTaken}
@@ -10,7 +11,7 @@ pub one_answered : (stage : Stage) (line output : List ℕ) (next : Stage) → L
 one_answered stage line output next a = (output, next, [], a, (refl, refl), sym (append-nil output))
 
 -- one byte: a newline closes the line, any other byte stands at its end
-module _ (after : Session) (stage : Stage) (line output : List ℕ) (byte : ℕ) where
+module _ {D : Type 0} (d : Ghosts D) (after : Session D d) (stage : Stage) (line output : List ℕ) (byte : ℕ) where
   abbrev Lines : Bool → List (List ℕ)
   Lines v = cond v (line ∷ []) []
 
@@ -64,9 +65,9 @@ answered_parted (line ∷ lines) more a c output p =
     (q.0, p.0 ++ q.1, q.2, (p.0, p.1, q.1, p.3, q.3, refl), q.4, p.5 ∙ ap (λ t. p.0 ++ t) q.5 ∙ sym (append_assoc p.0 q.1 q.2))
 
 -- bytes taken after bytes taken
-pub taken_join : (between after : Session) (stage : Stage) (line xs ys output rest : List ℕ) → (p : BytesTaken stage line xs output between) → BytesTaken p.next (left_open line xs) ys rest after →
-    BytesTaken stage line (xs ++ ys) (output ++ rest) after
-taken_join between after stage line xs ys output rest p q = record {
+pub taken_join : {D : Type 0} (d : Ghosts D) (between after : Session D d) (stage : Stage) (line xs ys output rest : List ℕ) → (p : BytesTaken stage line xs output between) →
+    BytesTaken p.next (left_open line xs) ys rest after → BytesTaken stage line (xs ++ ys) (output ++ rest) after
+taken_join d between after stage line xs ys output rest p q = record {
   next = q.next;
   answered = subst (λ l. LinesAnswered stage l (output ++ rest) q.next) (sym (closed_join line xs ys))
       (answered_join (closed line xs) (closed (left_open line xs) ys) stage p.next q.next output rest p.answered q.answered);

@@ -4,7 +4,7 @@ use Rattle.std.specs.List.{concat}
 use Rattle.lines.specs.Lines.{Means, SetsUp}
 use Rattle.lines.specs.Printed.{reply_bytes}
 use Rattle.lines.proofs.Determined.{command_determined, setup_determined}
-use Rattle.console.specs.Replies.{ReadsAs, reply_to, after_line}
+use Rattle.console.specs.Replies.{ReadsAs, line_step}
 use Rattle.console.specs.Sessions.{Stage, waiting, running, stopped, setup_output, after_setup, closing_lines, lines_of, LineAnswered, LinesAnswered}
 use Rattle.console.specs.Theorems.{OutputDetermined}
 
@@ -21,7 +21,7 @@ line_determined waiting line o p t u a b =
     (a.2 ∙ ap setup_output e ∙ sym b.2, a.3 ∙ ap after_setup e ∙ sym b.3)
 line_determined (running c) line o p t u a b =
     let e = read_determined (Means line) (command_determined line) a.0 b.0 a.1 b.1 in
-    (a.2 ∙ ap (λ r. reply_bytes (reply_to c r)) e ∙ sym b.2, a.3 ∙ ap (λ r. running (after_line c r)) e ∙ sym b.3)
+    (a.2 ∙ ap (λ r. reply_bytes (line_step r c).0) e ∙ sym b.2, a.3 ∙ ap (λ r. running (line_step r c).1) e ∙ sym b.3)
 line_determined stopped line o p t u a b = (a.0 ∙ sym b.0, a.1 ∙ sym b.1)
 
 pub lines_determined : (lines : List (List ℕ)) (s : Stage) (o p : List ℕ) (t u : Stage) → LinesAnswered s lines o t → LinesAnswered s lines p u → (o ≡ p) × (t ≡ u)

@@ -3,7 +3,7 @@ use Rattle.std.proofs.Common.{ℕ, List, [], ◌∷◌, ◌++◌, Some, None, Op
 use Rattle.lines.specs.Lines.{Means, SetsUp}
 use Rattle.lines.specs.Printed.{reply_bytes}
 use Rattle.lines.proofs.OneOrNone.{OneOrNone, setup_or_none, command_or_none}
-use Rattle.console.specs.Replies.{ReadsAs, reply_to, after_line}
+use Rattle.console.specs.Replies.{ReadsAs, line_step}
 use Rattle.console.specs.Sessions.{Stage, waiting, running, stopped, setup_output, after_setup, lines_of, LineAnswered, LinesAnswered}
 use Rattle.console.specs.Theorems.{OutputExists}
 
@@ -15,7 +15,7 @@ line_answered : (s : Stage) (line : List ℕ) → (output : List ℕ) × (next :
 line_answered waiting line = let r = some_read (SetsUp line) (setup_or_none line) in (setup_output r.0, after_setup r.0, (r.0, r.1, refl, refl))
 line_answered (running b) line =
     let r = some_read (Means line) (command_or_none line) in
-    (reply_bytes (reply_to b r.0), running (after_line b r.0), (r.0, r.1, refl, refl))
+    (reply_bytes (line_step r.0 b).0, running (line_step r.0 b).1, (r.0, r.1, refl, refl))
 line_answered stopped line = ([], stopped, (refl, refl))
 
 lines_answered : (lines : List (List ℕ)) (s : Stage) → (output : List ℕ) × (next : Stage) × LinesAnswered s lines output next

@@ -2,7 +2,7 @@
 use Rattle.std.proofs.Common.{◌≡◌, ℕ, ◌<◌, ◌≤◌, true, false, length, None, ap, ◌∙◌, ap₂, arith}
 use Rattle.std.proofs.lemmas.List.{length-replicate}
 use Rattle.device.specs.States.{DeviceState, Slot, blank_state}
-use Rattle.filter.specs.Ledger.{opened}
+use Rattle.ledger.specs.Ledger.{opened}
 use Rattle.lines.specs.declared.command.Setup.{Setup}
 use Rattle.console.specs.Sessions.{good_width}
 

@@ -6,6 +6,7 @@ use Rattle.std.specs.Io.KnownBytes.{Appends, Consumes, Keeps, IsAtEnd, ReadConsu
 use Rattle.std.proofs.lemmas.List.{take-append-drop, take_more, take_all}
 use Rattle.std.proofs.Math.Seq.{take-append_seam}
 use Rattle.arrayvec.specs.ArrayString.{ArrayString}
+use Rattle.device.specs.declared.device.RowDevice.{Ghosts}
 use Rattle.console.specs.declared.failure.Failure.{Failure}
 use Rattle.console.specs.declared.failure.Failure.TheVariants.{CannotRead}
 use Rattle.console.specs.declared.session.Session.{Session}
@@ -25,20 +26,20 @@ on_ok (Ok t) x = x
 on_ok (Err e) x = tt
 
 -- a piece of the input
-module _ (a : Option (List ℕ)) (stage : Stage) (line piece : List ℕ) where
-  abbrev pub TakenTo : Option (List ℕ) → ℕ → Session → Type 0
+module _ {D : Type 0} {dev : Ghosts D} (a : Option (List ℕ)) (stage : Stage) (line piece : List ℕ) where
+  abbrev pub TakenTo : Option (List ℕ) → ℕ → Session D dev → Type 0
   TakenTo b i s = (written : List ℕ) × Appends a b written × BytesTaken stage line (take i piece) written s
 
-  pub piece_begun : (s : Session) → SessionStands s stage line → TakenTo a 0 s
+  pub piece_begun : (s : Session D dev) → SessionStands s stage line → TakenTo a 0 s
   piece_begun s k = ([], appends_none a, record { next = stage; answered = (refl, refl); stands = k })
 
-  module _ (b c : Option (List ℕ)) (i : ℕ) (s after : Session) (output : List ℕ) (before : TakenTo b i s) (within : i < length piece)
+  module _ (b c : Option (List ℕ)) (i : ℕ) (s after : Session D dev) (output : List ℕ) (before : TakenTo b i s) (within : i < length piece)
       (step : (at : Stage) (held : List ℕ) → SessionStands s at held → BytesTaken at held (get_or piece i 0 ∷ []) output after) where
     one_more : BytesTaken stage line (take (i + 1) piece) (before.0 ++ output) after
     one_more =
         let t = before.2 in
         subst (λ l. BytesTaken stage line l (before.0 ++ output) after) (sym (take_more piece i 0 within))
-        (taken_join s after stage line (take i piece) (get_or piece i 0 ∷ []) before.0 output t (step t.next (left_open line (take i piece)) t.stands))
+        (taken_join dev s after stage line (take i piece) (get_or piece i 0 ∷ []) before.0 output t (step t.next (left_open line (take i piece)) t.stands))
 
     pub piece_more : Appends b c output → TakenTo c (i + 1) after
     piece_more w = (before.0 ++ output, appends_join a b c before.0 output before.1 w, one_more)
@@ -56,7 +57,7 @@ module _ (a : Option (List ℕ)) (stage : Stage) (line piece : List ℕ) where
       all = rw is tt;
     }
 
-  pub piece_all : {T E : Type 0} (b c : Option (List ℕ)) (i : ℕ) (s : Session) (result : Result T E) → TakenTo b i s → length piece ≤ i → Keeps b c → PieceAnswered a c stage line piece result s
+  pub piece_all : {T E : Type 0} (b c : Option (List ℕ)) (i : ℕ) (s : Session D dev) (result : Result T E) → TakenTo b i s → length piece ≤ i → Keeps b c → PieceAnswered a c stage line piece result s
   piece_all b c i s result t h kept = record {
     taken = piece;
     untaken = [];
@@ -87,16 +88,16 @@ concat_more (x ∷ lines) zero (Some l) e = let same : x ≡ l.bytes = cc in app
 concat_more (x ∷ lines) (suc i) line e = ap (λ t. x ++ t) (concat_more lines i line e) ∙ sym (append_assoc x (concat (take i lines)) (printed line))
 
 -- the input has ended, and the closing lines before this one are written
-pub record ClosedTo (a b : Option (List ℕ)) (stage : Stage) (line : List ℕ) (i : ℕ) (s : Session) : Type 0 where
+pub record ClosedTo {D : Type 0} {dev : Ghosts D} (a b : Option (List ℕ)) (stage : Stage) (line : List ℕ) (i : ℕ) (s : Session D dev) : Type 0 where
   pub output : List ℕ
   pub taken : EndTaken stage line output s
   pub appended : Appends a b (output ++ concat (take i (closing_lines taken.next)))
 
-module _ (a : Option (List ℕ)) (stage : Stage) (line : List ℕ) where
-  pub closed_none : (b : Option (List ℕ)) (s : Session) (output : List ℕ) → EndTaken stage line output s → Appends a b output → ClosedTo a b stage line 0 s
+module _ {D : Type 0} {dev : Ghosts D} (a : Option (List ℕ)) (stage : Stage) (line : List ℕ) where
+  pub closed_none : (b : Option (List ℕ)) (s : Session D dev) (output : List ℕ) → EndTaken stage line output s → Appends a b output → ClosedTo a b stage line 0 s
   closed_none b s output t w = record { output = output; taken = t; appended = subst (Appends a b) (sym (append-nil output)) w }
 
-  pub end_failed : {T E : Type 0} (b : Option (List ℕ)) (s : Session) (output : List ℕ) (result : Result T E) (e : E) (k : ℕ) → result ≡ Err e → EndTaken stage line output s → Appends a b (take k output) →
+  pub end_failed : {T E : Type 0} (b : Option (List ℕ)) (s : Session D dev) (output : List ℕ) (result : Result T E) (e : E) (k : ℕ) → result ≡ Err e → EndTaken stage line output s → Appends a b (take k output) →
       EndWritten a b stage line result
   end_failed b s output result e k is t w = record {
     written = take k output;
@@ -111,7 +112,7 @@ module _ (a : Option (List ℕ)) (stage : Stage) (line : List ℕ) where
     all = rw is tt;
   }
 
-  module _ (b c : Option (List ℕ)) (i : ℕ) (s : Session) (before : ClosedTo a b stage line i s) (next : Option ArrayString)
+  module _ (b c : Option (List ℕ)) (i : ℕ) (s : Session D dev) (before : ClosedTo a b stage line i s) (next : Option ArrayString)
       (is : option_map (λ l. l.bytes) next ≡ slice_get (closing_lines before.taken.next) i) where
     abbrev lines : List (List ℕ)
     lines = closing_lines before.taken.next
@@ -146,7 +147,7 @@ module _ (a : Option (List ℕ)) (stage : Stage) (line : List ℕ) where
       all = rw by_error tt;
     }
 
-  pub closed_all : {T E : Type 0} (b c : Option (List ℕ)) (i : ℕ) (s : Session) (result : Result T E) → (before : ClosedTo a b stage line i s) → length (closing_lines before.taken.next) ≤ i → Keeps b c →
+  pub closed_all : {T E : Type 0} (b c : Option (List ℕ)) (i : ℕ) (s : Session D dev) (result : Result T E) → (before : ClosedTo a b stage line i s) → length (closing_lines before.taken.next) ≤ i → Keeps b c →
       EndWritten a c stage line result
   closed_all b c i s result before h kept =
       let all = before.output ++ concat (closing_lines before.taken.next) in
@@ -159,7 +160,7 @@ module _ (a : Option (List ℕ)) (stage : Stage) (line : List ℕ) where
       }
 
 -- the output for bytes that were taken, and for bytes more
-begins : (s : Session) (read written unwritten : List ℕ) → BytesTaken waiting [] read (written ++ unwritten) s → (input more : List ℕ) → input ≡ read ++ more → OutputBegins input written
+begins : {D : Type 0} {dev : Ghosts D} (s : Session D dev) (read written unwritten : List ℕ) → BytesTaken waiting [] read (written ++ unwritten) s → (input more : List ℕ) → input ≡ read ++ more → OutputBegins input written
 begins s read written unwritten t input more is output o =
     let open_lines = closed (left_open [] read) more ++ at_end (left_open [] (read ++ more)) in
     let cut = ap (λ l. l ++ at_end (left_open [] (read ++ more))) (closed_join [] read more) ∙ append_assoc (closed [] read) (closed (left_open [] read) more) (at_end (left_open [] (read ++ more))) in
@@ -173,7 +174,7 @@ begins s read written unwritten t input more is output o =
     ap (take (length written)) all ∙ take-append_seam written rest
 
 -- and for bytes after which the input ends
-ends : (s : Session) (read output end : List ℕ) → (t : BytesTaken waiting [] read output s) → SessionEnded t.next (left_open [] read) end → ConsoleOutput read (output ++ end)
+ends : {D : Type 0} {dev : Ghosts D} (s : Session D dev) (read output end : List ℕ) → (t : BytesTaken waiting [] read output s) → SessionEnded t.next (left_open [] read) end → ConsoleOutput read (output ++ end)
 ends s read output end t e = record {
   printed = output ++ e.printed;
   last = e.last;
@@ -193,7 +194,7 @@ stopped_stays : (lines : List (List ℕ)) → LinesAnswered stopped lines [] sto
 stopped_stays [] = (refl, refl)
 stopped_stays (line ∷ lines) = ([], stopped, [], (refl, refl), stopped_stays lines, refl)
 
-stopped_output : (s : Session) (read written : List ℕ) → (t : BytesTaken waiting [] read written s) → t.next ≡ stopped → (input more : List ℕ) → input ≡ read ++ more → ConsoleOutput input written
+stopped_output : {D : Type 0} {dev : Ghosts D} (s : Session D dev) (read written : List ℕ) → (t : BytesTaken waiting [] read written s) → t.next ≡ stopped → (input more : List ℕ) → input ≡ read ++ more → ConsoleOutput input written
 stopped_output s read written t at_stop input more is =
     let after = closed (left_open [] read) more ++ at_end (left_open [] (read ++ more)) in
     let cut = ap (λ l. l ++ at_end (left_open [] (read ++ more))) (closed_join [] read more) ∙ append_assoc (closed [] read) (closed (left_open [] read) more) (at_end (left_open [] (read ++ more))) in
@@ -225,10 +226,10 @@ no_read_failed given said e f given_is is same none kind by_reading =
     none kind (given_is ∙ ap Err (sym same ∙ read))
 
 -- the whole loop
-pub run_begun : (a c : Option (List ℕ)) (s : Session) → SessionStands s waiting [] → RunSoFar a a c c s
+pub run_begun : {D : Type 0} {dev : Ghosts D} (a c : Option (List ℕ)) (s : Session D dev) → SessionStands s waiting [] → RunSoFar a a c c s
 run_begun a c s k = record { read = []; written = []; consumed = consumes_none a; appended = appends_none c; taken = record { next = waiting; answered = (refl, refl); stands = k } }
 
-module _ (a b c d : Option (List ℕ)) (s : Session) (before : RunSoFar a b c d s) where
+module _ {D : Type 0} {dev : Ghosts D} (a b c d : Option (List ℕ)) (s : Session D dev) (before : RunSoFar a b c d s) where
   abbrev stage : Stage
   stage = before.taken.next
 
@@ -256,10 +257,10 @@ module _ (a b c d : Option (List ℕ)) (s : Session) (before : RunSoFar a b c d 
       }
 
   -- a piece was read
-  module _ {T E : Type 0} (b' d' : Option (List ℕ)) (got : List ℕ) (taken_from : Consumes b b' got) (result : Result T E) (after : Session) (p : PieceAnswered d d' stage held got result after) where
+  module _ {T E : Type 0} (b' d' : Option (List ℕ)) (got : List ℕ) (taken_from : Consumes b b' got) (result : Result T E) (after : Session D dev) (p : PieceAnswered d d' stage held got result after) where
     joined : BytesTaken waiting [] (before.read ++ p.taken) ((before.written ++ p.written) ++ p.unwritten) after
     joined = subst (λ o. BytesTaken waiting [] (before.read ++ p.taken) o after) (sym (append_assoc before.written p.written p.unwritten))
-        (taken_join s after waiting [] before.read p.taken before.written (p.written ++ p.unwritten) before.taken p.answered)
+        (taken_join dev s after waiting [] before.read p.taken before.written (p.written ++ p.unwritten) before.taken p.answered)
 
     got_parts : before.read ++ got ≡ (before.read ++ p.taken) ++ p.untaken
     got_parts = ap (λ t. before.read ++ t) p.parts ∙ sym (append_assoc before.read p.taken p.untaken)

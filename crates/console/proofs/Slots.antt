@@ -4,11 +4,10 @@ use Rattle.covers.specs.Symbols.{Symbols}
 use Rattle.covers.specs.Words.{value_word, care_word, symbols}
 use Rattle.covers.proofs.RowLengths.{Long}
 use Rattle.covers.proofs.RowWords.{symbols_back, clean_word}
-use Rattle.device.specs.MadeRows.{row_made}
+use Rattle.rows.specs.MadeRows.{row_made}
 use Rattle.device.specs.States.{Slot}
-use Rattle.filter.specs.Ledger.{Ledger, ledger_runs, ledger_rows}
-use Rattle.filter.specs.Placement.{slot_with, placed}
-use Rattle.filter.proofs.Placed.{runs_long}
+use Rattle.ledger.specs.Ledger.{Ledger, Laid, ledger_rows, slot_with}
+use Rattle.ledger.proofs.Rows.{ledger_rows_right}
 use Rattle.lines.specs.Printed.{row_bytes}
 use Rattle.console.specs.Closing.{slot_line, row_lines}
 
@@ -25,6 +24,6 @@ placed_line n k (r ∷ rows) zero h =
 placed_line n k (r ∷ rows) (suc i) h = placed_line n k rows i h.1
 
 -- the slots of a ledger's rows
-pub ledger_line : (n : ℕ) (slots : List Slot) (b : Ledger) (i : ℕ) → n ≡ b.width → slots ≡ placed b.slots (ledger_rows b) → slot_line n (get_or slots i None) ≡ slice_get (row_lines (ledger_rows b)) i
+pub ledger_line : (n : ℕ) (slots : List Slot) (b : Ledger) (i : ℕ) → n ≡ b.width → Laid b slots → slot_line n (get_or slots i None) ≡ slice_get (row_lines (ledger_rows b)) i
 ledger_line n slots b i w p =
-    ap₂ (λ m s. slot_line m (get_or s i None)) w p ∙ placed_line b.width (b.slots - length (ledger_rows b)) (ledger_rows b) i (runs_long b.width (ledger_runs b))
+    ap₂ (λ m s. slot_line m (get_or s i None)) w p ∙ placed_line b.width (b.slots - length (ledger_rows b)) (ledger_rows b) i (ledger_rows_right b).of_width

@@ -7,7 +7,8 @@ use Rattle.device.specs.declared.device.RowDevice.{Ghosts}
 use Rattle.device.specs.KeptBeside.{KeptBeside}
 use Rattle.device.specs.KeptBesideLaws.{kept_on, kept_unwritten}
 use Rattle.filter.specs.declared.filter.Filter.{Filter}
-use Rattle.filter.specs.Ledger.{Ledger, after_hold}
+use Rattle.ledger.specs.Ledger.{Ledger}
+use Rattle.ledger.specs.Steps.{hold_step}
 use Rattle.filter.specs.StandsFor.{StandsFor}
 use Rattle.filter.specs.Writes.{edit_writes}
 use Rattle.filter.proofs.Edited.{slots_known}
@@ -16,13 +17,13 @@ use Rattle.filter_calls.proofs.Written.{size_stays}
 
 module _ {D : Type 0} (d : Ghosts D) (free held : Filter D d) where
   -- the hold leaves as many slots
-  as_many : ((b : Ledger) → StandsFor d free b → StandsFor d held (after_hold b)) → length (d.state held.device).slots ≡ length (d.state free.device).slots
+  as_many : ((b : Ledger) → StandsFor free b → StandsFor held (hold_step b).1) → length (d.state held.device).slots ≡ length (d.state free.device).slots
   as_many step =
-      ∥∥₁_elim free.stands (Prim.hlevel props) (λ p. slots_known d held (after_hold p.0) (step p.0 p.1) ∙ (size_stays p.0 Hold).slots ∙ sym (slots_known d free p.0 p.1))
+      ∥∥₁_elim free.stands (Prim.hlevel props) (λ p. slots_known d held (hold_step p.0).1 (step p.0 p.1) ∙ (size_stays p.0 Hold).slots ∙ sym (slots_known d free p.0 p.1))
 
   -- and neither it nor the release writes one
   pub kept_in_hold : (edited released : D) (answer reply : Result ℕ Refusal) → reply ≡ answer →
-      ((b : Ledger) → StandsFor d free b → StandsFor d held (after_hold b)) → KeptBeside d free.device [] held.device →
+      ((b : Ledger) → StandsFor free b → StandsFor held (hold_step b).1) → KeptBeside d free.device [] held.device →
       KeptBeside d held.device (edit_writes answer (length (d.state held.device).slots)) edited → KeptBeside d edited [] released →
       KeptBeside d free.device (edit_writes reply (length (d.state free.device).slots)) released
   kept_in_hold edited released answer reply same step at_hold at_edit at_release =

@@ -3,6 +3,7 @@ use Rattle.std.specs.Prelude.{◌≡◌, ℕ, ◌≤◌, List, [], ◌++◌, len
 use Rattle.std.specs.Io.{StartsWith}
 use Rattle.std.specs.Io.KnownBytes.{Appends, Consumes}
 use Rattle.std.specs.declared.io.ErrorKind.{ErrorKind}
+use Rattle.device.specs.declared.device.RowDevice.{Ghosts}
 use Rattle.console.specs.declared.failure.Failure.{Failure}
 use Rattle.console.specs.declared.failure.Failure.TheVariants.{CannotRead}
 use Rattle.console.specs.declared.session.Session.{Session}
@@ -16,7 +17,7 @@ pub record BytesWritten {T E : Type 0} (shown now : Option (List ℕ)) (bytes : 
   pub all : OnOk result (length bytes ≤ count)
 
 -- a session took a piece of the input, or the beginning of it at which writing failed; of the answers a beginning was written
-pub record PieceAnswered {T E : Type 0} (shown now : Option (List ℕ)) (stage : Stage) (line piece : List ℕ) (result : Result T E) (after : Session) : Type 0 where
+pub record PieceAnswered {D T E : Type 0} {d : Ghosts D} (shown now : Option (List ℕ)) (stage : Stage) (line piece : List ℕ) (result : Result T E) (after : Session D d) : Type 0 where
   pub taken : List ℕ
   pub untaken : List ℕ
   pub written : List ℕ
@@ -35,7 +36,7 @@ pub record EndWritten {T E : Type 0} (shown now : Option (List ℕ)) (stage : St
   pub all : OnOk result (unwritten ≡ [])
 
 -- a new session took these bytes from the reader, and all that answers them was written
-pub record RunSoFar (unread left shown now : Option (List ℕ)) (s : Session) : Type 0 where
+pub record RunSoFar {D : Type 0} {d : Ghosts D} (unread left shown now : Option (List ℕ)) (s : Session D d) : Type 0 where
   pub read : List ℕ
   pub written : List ℕ
   pub consumed : Consumes unread left read

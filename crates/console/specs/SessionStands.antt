@@ -4,9 +4,8 @@ use Rattle.std.specs.Prelude.{◌≡◌, ℕ, min, true, false, List, [], Some, 
 use Rattle.arrayvec.specs.ArrayString.{ArrayString}
 use Rattle.rows.specs.declared.refusal.Refusal.{Refusal}
 use Rattle.rows.specs.declared.refusal.Refusal.TheVariants.{WidthOutOfRange, MalformedLine}
-use Rattle.device.specs.contracts.column_table.ColumnTableRowDevice.TheImpl.{ghosts}
-use Rattle.device.specs.declared.column_table.ColumnTable.{ColumnTable}
-use Rattle.filter.specs.Ledger.{opened}
+use Rattle.device.specs.declared.device.RowDevice.{Ghosts}
+use Rattle.ledger.specs.Ledger.{opened}
 use Rattle.lines.specs.declared.command.Setup.{Setup}
 use Rattle.lines.specs.Buffers.{buffered, kept}
 use Rattle.console.specs.declared.console.Console.{Console}
@@ -17,15 +16,19 @@ use Rattle.console.specs.StandsFor.{ConsoleStands}
 use Rattle.console.specs.Sessions.{Stage, waiting, running, stopped, LineAnswered, LinesAnswered, closed, left_open, at_end, good_width}
 
 -- a stage of the code stands for one of the definitions
-abbrev pub StageStands : code.Stage → Stage → Type 0
+abbrev pub StageStands : {D : Type 0} → {d : Ghosts D} → code.Stage D d → Stage → Type 0
 StageStands Waiting waiting = Unit {0}
-StageStands (Running c) (running b) = ConsoleStands ghosts c b
+StageStands (Running c) (running b) = ConsoleStands c b
 StageStands Stopped stopped = Unit {0}
 StageStands _ _ = ⊥
 
-pub record SessionStands (s : Session) (stage : Stage) (line : List ℕ) : Type 0 where
+pub record SessionStands {D : Type 0} {d : Ghosts D} (s : Session D d) (stage : Stage) (line : List ℕ) : Type 0 where
   pub at_stage : StageStands s.stage stage
   pub open_line : buffered s.line ≡ kept line
+
+-- this holds of whichever stage and open line the session stands for
+abbrev pub AtItsStage : {D : Type 0} → {d : Ghosts D} → Session D d → (Stage → List ℕ → Type 0) → Type 0
+AtItsStage s P = (stage : Stage) (line : List ℕ) → SessionStands s stage line → P stage line
 
 -- the bytes of a line, if there is one
 abbrev pub printed : Option ArrayString → List ℕ
@@ -33,26 +36,26 @@ printed (Some line) = line.bytes
 printed None = []
 
 -- a line was closed: what answers it, and the stage afterwards
-pub record LineClosed (stage : Stage) (line : List ℕ) (output : List ℕ) (after : code.Stage) : Type 0 where
+pub record LineClosed {D : Type 0} {d : Ghosts D} (stage : Stage) (line : List ℕ) (output : List ℕ) (after : code.Stage D d) : Type 0 where
   pub next : Stage
   pub answered : LineAnswered stage line output next
   pub stands : StageStands after next
 
 -- what a first line makes of a session
-abbrev pub Begun : Option Setup → Result (Console ColumnTable ghosts) Refusal → Type 0
-Begun (Some s) (Ok c) = (good_width s ≡ true) × ConsoleStands ghosts c (opened s.width (min 120 s.slots) 0)
+abbrev pub Begun : {D : Type 0} → {d : Ghosts D} → Option Setup → Result (Console D d) Refusal → Type 0
+Begun (Some s) (Ok c) = (good_width s ≡ true) × ConsoleStands c (opened s.width (min 120 s.slots) 0)
 Begun (Some s) (Err e) = (good_width s ≡ false) × (e ≡ WidthOutOfRange)
 Begun None (Ok c) = ⊥
 Begun None (Err e) = e ≡ MalformedLine
 
 -- bytes were taken: this output answers the lines that they close, and the session goes on with the line that they leave open
-pub record BytesTaken (stage : Stage) (line bytes output : List ℕ) (after : Session) : Type 0 where
+pub record BytesTaken {D : Type 0} {d : Ghosts D} (stage : Stage) (line bytes output : List ℕ) (after : Session D d) : Type 0 where
   pub next : Stage
   pub answered : LinesAnswered stage (closed line bytes) output next
   pub stands : SessionStands after next (left_open line bytes)
 
 -- the input has ended: this output answers the line that its end closes, if it closes one, and no line is open afterwards
-pub record EndTaken (stage : Stage) (line output : List ℕ) (after : Session) : Type 0 where
+pub record EndTaken {D : Type 0} {d : Ghosts D} (stage : Stage) (line output : List ℕ) (after : Session D d) : Type 0 where
   pub next : Stage
   pub answered : LinesAnswered stage (at_end line) output next
   pub stands : SessionStands after next []

@@ -3,12 +3,12 @@ use Rattle.std.specs.Prelude.{◌≡◌, ℕ, min, Bool, true, false, cond, ◌&
 use Rattle.std.specs.List.{concat}
 use Rattle.rows.specs.declared.refusal.Refusal.{Refusal}
 use Rattle.rows.specs.declared.refusal.Refusal.TheVariants.{WidthOutOfRange, MalformedLine}
-use Rattle.filter.specs.Ledger.{Ledger, opened, ledger_rows}
+use Rattle.ledger.specs.Ledger.{Ledger, opened, ledger_rows}
 use Rattle.lines.specs.declared.command.Command.{Command}
 use Rattle.lines.specs.declared.command.Setup.{Setup}
 use Rattle.lines.specs.Lines.{SetsUp}
 use Rattle.lines.specs.Printed.{reply_bytes}
-use Rattle.console.specs.Replies.{ReadsAs, Reads, reply_to, after_line}
+use Rattle.console.specs.Replies.{ReadsAs, Reads, line_step}
 use Rattle.console.specs.Closing.{row_lines}
 
 -- a text cut at its newlines, with what stood open before it: the lines that it closes
@@ -63,7 +63,7 @@ after_setup None = stopped
 -- one line: what is printed, and the next stage
 abbrev pub LineAnswered : Stage → List ℕ → List ℕ → Stage → Type 0
 LineAnswered waiting line output next = (setup : Option Setup) × ReadsSetup line setup × (output ≡ setup_output setup) × (next ≡ after_setup setup)
-LineAnswered (running b) line output next = (read : Option Command) × Reads line read × (output ≡ reply_bytes (reply_to b read)) × (next ≡ running (after_line b read))
+LineAnswered (running b) line output next = (read : Option Command) × Reads line read × (output ≡ reply_bytes (line_step read b).0) × (next ≡ running (line_step read b).1)
 LineAnswered stopped line output next = (output ≡ []) × (next ≡ stopped)
 
 -- a list of lines: what is printed in all, and the stage after them

@@ -8,8 +8,8 @@ use lines::command::Command;
 use lines::parse::parse_command;
 use lines::print::{PrintedLine, row_line};
 use lines::reply::Reply;
+use rows::edit::Edit;
 use rows::refusal::Refusal;
-use run_table::edit::Edit;
 
 // The console's filter needs no tag of its own: its tokens never leave the console.
 const CONSOLE_TAG: u64 = 0;
@@ -25,16 +25,18 @@ impl<D: RowDevice> Console<D> {
     ghost use Rattle.std.specs.Prelude.{◌≤◌, length, slice_get, slice_index_or, None};
     ghost use Rattle.std.specs.Option.{option_map};
     ghost use Rattle.device.specs.KeptBeside.{KeptBeside};
-    ghost use Rattle.filter.specs.Ledger.{Ledger, opened, edit_answer, after_hold, after_edit, after_release, ledger_rows};
+    ghost use Rattle.ledger.specs.Ledger.{Ledger, opened, ledger_rows};
+    ghost use Rattle.filter.specs.StandsFor.{Follows};
     ghost use Rattle.filter.specs.Writes.{all_slots, edit_writes};
     ghost use Rattle.filter_calls.specs.Promises.{PromiseKept};
     ghost use Rattle.console.specs.Closing.{row_lines, slot_line};
-    ghost use Rattle.console.specs.Replies.{reply_writes};
-    ghost use Rattle.console.specs.StandsFor.{ConsoleStands, LineTaken};
+    ghost use Rattle.console.specs.Replies.{edit_in_hold, reply_writes};
+    ghost use Rattle.console.specs.StandsFor.{ConsoleStands, LineObeyed};
 
     // A console over the device, which holds no numbers.
     pub fn open(device: D) -> Console<D>
-        ensures opened { ConsoleStands D.RowDevice result (opened (D.RowDevice.state device).width (length (D.RowDevice.state device).slots) 0) }
+        ensures opened { ConsoleStands result
+            (opened (D.state device).width (length (D.state device).slots) 0) }
         ensures beside { KeptBeside D.RowDevice device
             (all_slots (length (D.state device).slots))
             result.filter.device }
@@ -46,18 +48,14 @@ impl<D: RowDevice> Console<D> {
 
     // Obeys a line, without its newline, and replies to it or refuses it.
     pub fn answer(&mut self, line: &[u8]) -> Result<Reply, Refusal>
-        ensures step { (b : Ledger) → ConsoleStands D.RowDevice self.old b → LineTaken D.RowDevice b line.now result self.new }
+        ensures obeyed { LineObeyed self.old line.now result self.new }
         ensures beside { KeptBeside D.RowDevice self.old.filter.device
             (reply_writes (length (D.state self.old.filter.device).slots) result)
             self.new.filter.device }
     {
         match parse_command(line)? {
-            Command::Add(range) => {
-                let rows = self.edit(Edit::Add(range))?;
-                Ok(Reply::Rows(rows))
-            }
-            Command::Drop(range) => {
-                let rows = self.edit(Edit::Drop(range))?;
+            Command::Edit(edit) => {
+                let rows = self.edit(edit)?;
                 Ok(Reply::Rows(rows))
             }
             Command::Ask { number } => {
@@ -69,10 +67,7 @@ impl<D: RowDevice> Console<D> {
 
     // One edit within a hold of its own.
     fn edit(&mut self, edit: Edit) -> Result<usize, Refusal>
-        ensures step { (b : Ledger) → ConsoleStands D.RowDevice self.old b →
-            (result ≡ edit_answer (after_hold b) b.tag edit)
-            × ConsoleStands D.RowDevice self.new
-            (after_release (after_edit (after_hold b) b.tag edit) b.tag) }
+        ensures step { Follows self.old.filter (edit_in_hold edit) result self.new.filter }
         ensures beside { KeptBeside D.RowDevice self.old.filter.device
             (edit_writes result (length (D.state self.old.filter.device).slots))
             self.new.filter.device }
@@ -87,7 +82,7 @@ impl<D: RowDevice> Console<D> {
     /// How many slots there are; whatever lines were obeyed before, the rows in them are right.
     pub fn slot_count(&self) -> usize
         ensures count { result ≡ length (D.state self.now.filter.device).slots }
-        ensures kept { (b : Ledger) → ConsoleStands D.RowDevice self.now b →
+        ensures kept { (b : Ledger) → ConsoleStands self.now b →
             PromiseKept (D.state self.now.filter.device) (D.levels self.now.filter.device) b }
     {
         slots_kept(&self.filter)
@@ -98,7 +93,7 @@ impl<D: RowDevice> Console<D> {
         ensures by_device { option_map (λ line. line.bytes) result ≡
             slot_line (D.state self.now.filter.device).width
             (slice_index_or (D.state self.now.filter.device).slots slot None) }
-        ensures by_ledger { (b : Ledger) → ConsoleStands D.RowDevice self.now b →
+        ensures by_ledger { (b : Ledger) → ConsoleStands self.now b →
             option_map (λ line. line.bytes) result ≡ slice_get (row_lines (ledger_rows b)) slot }
         ensures few { 120 ≤ slot → result ≡ None }
     {

@@ -1,31 +1,34 @@
 // The loop of the program: pieces from a reader, lines to a writer.
-ghost use Rattle.std.specs.Prelude.{ℕ, List};
-ghost use Rattle.console.specs.Sessions.{Stage as Meaning};
-ghost use Rattle.console.specs.SessionStands.{SessionStands, printed};
+ghost use Rattle.console.specs.SessionStands.{AtItsStage, printed};
 ghost use Rattle.console.specs.Loops.{BytesWritten, EndWritten, LoopEnded, NoReadFailed, PieceAnswered};
 
 use super::failure::Failure;
 use super::session::Session;
+use device::new_device::NewDevice;
 use lines::print::PrintedLine;
+use rows::slots::MOST_SLOTS;
 use std::io::{ErrorKind, Read, Write};
 
 /// The bytes that are asked for at a time.
 pub const PIECE_BYTES: usize = 4096;
 
 // The most closing lines that a session has: a row for each slot.
-const MOST_CLOSING_LINES: usize = 120;
+const MOST_CLOSING_LINES: usize = MOST_SLOTS;
 
-/// Runs a session of the console: reads to the input's end, or until the first line is refused, and writes the answer to each
-/// line as soon as the piece is taken that closes it, and the closing lines at the end. The writer is flushed before each
-/// read. An interrupted call is made again. Where nothing is known of the bytes of the reader or the writer, as on a
-/// terminal, no clause speaks of them.
+/// Runs a session of the console over a device of the type `D`: reads to the input's end, or until the first line is
+/// refused, and writes the answer to each line as soon as the piece is taken that closes it, and the closing lines at the
+/// end. The writer is flushed before each read. An interrupted call is made again. Where nothing is known of the bytes of
+/// the reader or the writer, as on a terminal, no clause speaks of them.
 ///
 /// Errors: what could not be read or written. What was written by then stays written.
-pub fn run<R: Read, W: Write>(input: &mut R, output: &mut W) -> Result<(), Failure>
+pub fn run<D: NewDevice + Drop, R: Read, W: Write>(
+    input: &mut R,
+    output: &mut W,
+) -> Result<(), Failure>
     ensures whole_else_failure_left_free { LoopEnded (R.remaining input.old) (R.remaining input.new)
         (W.contents output.old) (W.contents output.new) result }
 {
-    let mut session = Session::new();
+    let mut session = Session::<D>::new();
     let mut piece = [0; PIECE_BYTES];
     for _ in 0..u64::MAX {
         match input.read(&mut piece) {
@@ -44,14 +47,14 @@ pub fn run<R: Read, W: Write>(input: &mut R, output: &mut W) -> Result<(), Failu
 }
 
 // Gives the bytes of a piece to the session, and writes the lines that answer them.
-fn answer_piece<W: Write>(
-    session: &mut Session,
+fn answer_piece<D: NewDevice + Drop, W: Write>(
+    session: &mut Session<D>,
     piece: &[u8],
     output: &mut W,
 ) -> Result<(), Failure>
-    ensures answered { (stage : Meaning) (line : List ℕ) → SessionStands session.old stage line →
+    ensures answered { AtItsStage session.old (λ stage line.
         PieceAnswered (W.contents output.old) (W.contents output.new) stage line piece.now
-        result session.new }
+        result session.new) }
     ensures by_writing { NoReadFailed result }
 {
     for byte in piece {
@@ -63,9 +66,12 @@ fn answer_piece<W: Write>(
 }
 
 // Ends the session, and writes the lines that follow.
-fn write_end<W: Write>(session: &mut Session, output: &mut W) -> Result<(), Failure>
-    ensures ended { (stage : Meaning) (line : List ℕ) → SessionStands session.old stage line →
-        EndWritten (W.contents output.old) (W.contents output.new) stage line result }
+fn write_end<D: NewDevice + Drop, W: Write>(
+    session: &mut Session<D>,
+    output: &mut W,
+) -> Result<(), Failure>
+    ensures ended { AtItsStage session.old (λ stage line.
+        EndWritten (W.contents output.old) (W.contents output.new) stage line result) }
     ensures by_writing { NoReadFailed result }
 {
     write_line(output, session.end_input())?;

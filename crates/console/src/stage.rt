@@ -1,16 +1,15 @@
 // A session, line by line.
 ghost use Rattle.std.specs.Prelude.{◌≡◌, ℕ, ◌≤◌, List, slice_get, None, Option as Maybe};
 ghost use Rattle.std.specs.Option.{option_map};
-ghost use Rattle.device.specs.contracts.column_table.ColumnTableRowDevice.TheImpl.{ghosts};
-ghost use Rattle.filter.specs.Ledger.{Ledger};
 ghost use Rattle.lines.specs.declared.command.Setup.{Setup as SetupLine};
 ghost use Rattle.lines.specs.Buffers.{kept};
 ghost use Rattle.console.specs.Sessions.{Stage as Meaning, ReadsSetup, closing_lines};
 ghost use Rattle.console.specs.SessionStands.{Begun, LineClosed, StageStands, printed};
-ghost use Rattle.console.specs.StandsFor.{ConsoleStands, LineTaken};
+ghost use Rattle.console.specs.StandsFor.{LineObeyed};
 
 use super::console::Console;
-use device::column_table::ColumnTable;
+use device::device::RowDevice;
+use device::new_device::NewDevice;
 use lines::parse::parse_setup;
 use lines::print::{PrintedLine, reply_line};
 use lines::reply::Reply;
@@ -19,17 +18,18 @@ use rows::width::Width;
 
 // What a session has come to: it waits for its first line, runs, or has stopped.
 #[derive(Drop)]
-pub(super) enum Stage {
+pub(super) enum Stage<D: RowDevice> {
     Waiting,
-    Running(Console<ColumnTable>),
+    Running(Console<D>),
     Stopped,
 }
 
-impl Stage {
+impl<D: NewDevice + Drop> Stage<D> {
     // Takes a line, or nothing in place of one that is too long, and gives the line to print, if it is answered.
     pub(super) fn take_line(&mut self, line: Option<&[u8]>) -> Option<PrintedLine>
         ensures step { (stage : Meaning) (text : List ℕ) → StageStands self.old stage →
-            option_map (λ x. x.now) line.entry ≡ kept text → LineClosed stage text (printed result) self.new }
+            option_map (λ x. x.now) line.entry ≡ kept text →
+            LineClosed stage text (printed result) self.new }
     {
         match self {
             Stage::Waiting => match begin(line) {
@@ -62,20 +62,20 @@ impl Stage {
 }
 
 // The console that a first line asks for.
-fn begin(line: Option<&[u8]>) -> Result<Console<ColumnTable>, Refusal>
+fn begin<D: NewDevice>(line: Option<&[u8]>) -> Result<Console<D>, Refusal>
     ensures begun { (text : List ℕ) → option_map (λ x. x.now) line.entry ≡ kept text →
         (setup : Maybe SetupLine) × ReadsSetup text setup × Begun setup result }
 {
     let line = line.ok_or(Refusal::MalformedLine)?;
     let setup = parse_setup(line)?;
     let width = Width::try_from(setup.width)?;
-    Ok(Console::open(ColumnTable::new(width, setup.slots as usize)))
+    Ok(Console::open(D::new(width, setup.slots as usize)))
 }
 
 // The reply of a running console.
-fn answer(console: &mut Console<ColumnTable>, line: Option<&[u8]>) -> Result<Reply, Refusal>
-    ensures step { (b : Ledger) (text : List ℕ) → ConsoleStands ghosts console.old b →
-        option_map (λ x. x.now) line.entry ≡ kept text → LineTaken ghosts b text result console.new }
+fn answer<D: RowDevice>(console: &mut Console<D>, line: Option<&[u8]>) -> Result<Reply, Refusal>
+    ensures obeyed { (text : List ℕ) → option_map (λ x. x.now) line.entry ≡ kept text →
+        LineObeyed console.old text result console.new }
 {
     console.answer(line.ok_or(Refusal::MalformedLine)?)
 }

@@ -2,6 +2,7 @@
 ghost use Rattle.std.specs.Prelude.{◌<◌, Some};
 
 use arrayvec::ArrayVec;
+use column_table::ColumnTable;
 use console::failure::Failure;
 use console::run::run;
 use std::io;
@@ -96,7 +97,7 @@ fn pieces_of_all_sizes_give_the_same_output(rt: HostRuntime) {
     for most_read in 1..=INPUT.len() + 1 {
         for most_taken in 1..=OUTPUT.len() + 1 {
             let mut output = with_room(most_taken, 64);
-            let ended = run(&mut in_pieces(INPUT, most_read), &mut output);
+            let ended = run::<ColumnTable, _, _>(&mut in_pieces(INPUT, most_read), &mut output);
             assert_eq!(rt; ended, Ok(()));
             assert_eq!(rt; output.held.as_slice(), OUTPUT);
         }
@@ -109,7 +110,7 @@ fn what_was_answered_before_a_failed_read_is_written(rt: HostRuntime) {
         let mut input = in_pieces(&INPUT[..cut], 5);
         input.failure = Some(ErrorKind::ConnectionReset);
         let mut output = with_room(3, 64);
-        let ended = run(&mut input, &mut output);
+        let ended = run::<ColumnTable, _, _>(&mut input, &mut output);
         assert_eq!(rt; ended, Err(Failure::CannotRead(ErrorKind::ConnectionReset)));
         assert!(rt; OUTPUT.starts_with(output.held.as_slice()));
         // each line that was closed is answered, but for the first
@@ -128,7 +129,7 @@ fn what_was_answered_before_a_failed_read_is_written(rt: HostRuntime) {
 fn a_failed_write_leaves_all_bytes_before_it(rt: HostRuntime) {
     for room in 0..OUTPUT.len() {
         let mut output = with_room(4, room);
-        let ended = run(&mut in_pieces(INPUT, 9), &mut output);
+        let ended = run::<ColumnTable, _, _>(&mut in_pieces(INPUT, 9), &mut output);
         assert_eq!(rt; ended, Err(Failure::CannotWrite(ErrorKind::BrokenPipe)));
         assert_eq!(rt; output.held.as_slice(), &OUTPUT[..room]);
     }
@@ -136,7 +137,7 @@ fn a_failed_write_leaves_all_bytes_before_it(rt: HostRuntime) {
 
 #[test]
 fn a_writer_that_takes_nothing_is_a_failure(rt: HostRuntime) {
-    let ended = run(&mut in_pieces(INPUT, 9), &mut with_room(0, 64));
+    let ended = run::<ColumnTable, _, _>(&mut in_pieces(INPUT, 9), &mut with_room(0, 64));
     assert_eq!(rt; ended, Err(Failure::CannotWrite(ErrorKind::WriteZero)));
 }
 
@@ -144,7 +145,7 @@ fn a_writer_that_takes_nothing_is_a_failure(rt: HostRuntime) {
 fn a_refused_first_line_leaves_the_rest_unread(rt: HostRuntime) {
     let mut input = in_pieces(b"33 8\n+ 1 4\n? 1\n", 6);
     let mut output = with_room(64, 64);
-    assert_eq!(rt; run(&mut input, &mut output), Ok(()));
+    assert_eq!(rt; run::<ColumnTable, _, _>(&mut input, &mut output), Ok(()));
     assert_eq!(rt; output.held.as_slice(), b"refused 1\n".as_slice());
     assert_eq!(rt; input.unread, b" 1 4\n? 1\n".as_slice());
 }
@@ -152,6 +153,9 @@ fn a_refused_first_line_leaves_the_rest_unread(rt: HostRuntime) {
 #[test]
 fn an_absent_first_line_is_refused_at_the_end(rt: HostRuntime) {
     let mut output = with_room(64, 64);
-    assert_eq!(rt; run(&mut in_pieces(b"", 6), &mut output), Ok(()));
+    assert_eq!(rt;
+        run::<ColumnTable, _, _>(&mut in_pieces(b"", 6), &mut output),
+        Ok(())
+    );
     assert_eq!(rt; output.held.as_slice(), b"refused 13\n".as_slice());
 }

@@ -5,6 +5,7 @@ use lines::command::Command;
 use lines::parse::{parse_command, parse_setup};
 use lines::print::{MOST_PRINTED_BYTES, reply_line, row_line};
 use lines::reply::Reply;
+use rows::edit::Edit;
 use rows::range::Range;
 use rows::refusal::Refusal;
 use rows::row::Row;
@@ -14,10 +15,13 @@ use std::test::Fail;
 
 #[test]
 fn lines_are_read(rt: HostRuntime) -> Result<(), Fail> {
-    assert_eq!(rt; parse_command(b"+ 1 4"), Ok(Command::Add(Range::new(1, 4))));
+    assert_eq!(rt;
+        parse_command(b"+ 1 4"),
+        Ok(Command::Edit(Edit::Add(Range::new(1, 4))))
+    );
     assert_eq!(rt;
         parse_command(b"- 0000000010 9"),
-        Ok(Command::Drop(Range::new(10, 9)))
+        Ok(Command::Edit(Edit::Drop(Range::new(10, 9))))
     );
     assert_eq!(rt;
         parse_command(b"? 9999999999"),

@@ -1,4 +1,5 @@
 // Sessions, byte by byte.
+use column_table::ColumnTable;
 use console::session::Session;
 
 // What the last line says that was printed for some bytes.
@@ -23,7 +24,7 @@ impl From<&str> for Heard {
     }
 }
 
-fn told(session: &mut Session, bytes: &[u8]) -> Heard {
+fn told(session: &mut Session<ColumnTable>, bytes: &[u8]) -> Heard {
     let mut heard = Heard::Nothing;
     for byte in bytes {
         if let Some(line) = session.take_byte(*byte) {
@@ -34,7 +35,7 @@ fn told(session: &mut Session, bytes: &[u8]) -> Heard {
 }
 
 // The closing line at an index, or nothing beyond the last.
-fn closing_line_is(session: &Session, index: usize, expected: &str) -> bool {
+fn closing_line_is(session: &Session<ColumnTable>, index: usize, expected: &str) -> bool {
     match session.closing_line(index) {
         Some(line) => line.as_str() == expected,
         None => expected.is_empty(),
@@ -43,7 +44,7 @@ fn closing_line_is(session: &Session, index: usize, expected: &str) -> bool {
 
 #[test]
 fn lines_are_answered_as_they_come(rt: HostRuntime) {
-    let mut session = Session::new();
+    let mut session = Session::<ColumnTable>::new();
     assert_eq!(rt; told(&mut session, b"3 8\n"), Heard::Nothing);
     assert_eq!(rt; told(&mut session, b"? 6\n"), Heard::No);
     assert_eq!(rt; told(&mut session, b"+ 6 6\n"), Heard::Other);
@@ -57,7 +58,7 @@ fn lines_are_answered_as_they_come(rt: HostRuntime) {
 
 #[test]
 fn a_line_of_a_megabyte_is_refused_once(rt: HostRuntime) {
-    let mut session = Session::new();
+    let mut session = Session::<ColumnTable>::new();
     assert_eq!(rt; told(&mut session, b"3 8\n"), Heard::Nothing);
     let piece = [b'+'; 4096];
     for _ in 0..256 {
@@ -69,7 +70,7 @@ fn a_line_of_a_megabyte_is_refused_once(rt: HostRuntime) {
 
 #[test]
 fn the_end_closes_a_line_and_the_rows_follow(rt: HostRuntime) {
-    let mut session = Session::new();
+    let mut session = Session::<ColumnTable>::new();
     assert_eq!(rt;
         told(&mut session, b"3 8\n+ 1 4\n+ 6 6\n- 4 4\n? 6"),
         Heard::Other
@@ -86,7 +87,7 @@ fn the_end_closes_a_line_and_the_rows_follow(rt: HostRuntime) {
 
 #[test]
 fn a_first_line_that_is_none_stops_the_console(rt: HostRuntime) {
-    let mut session = Session::new();
+    let mut session = Session::<ColumnTable>::new();
     assert!(rt; !session.has_stopped());
     assert!(rt; closing_line_is(&session, 0, "refused 13\n"));
     assert!(rt; closing_line_is(&session, 1, ""));

@@ -2,7 +2,8 @@
 use Rattle.std.proofs.Common.{◌≡◌, ℕ, List, sym, ap, ◌∙◌, subst, ap₂}
 use Rattle.rows.specs.declared.range.Range.{Range}
 use Rattle.lines.specs.declared.command.Command.{Command}
-use Rattle.lines.specs.declared.command.Command.TheVariants.{Add, Drop, Ask}
+use Rattle.lines.specs.declared.command.Command.TheVariants.{Edit, Ask}
+use Rattle.rows.specs.declared.edit.Edit.TheVariants.{Add, Drop}
 use Rattle.lines.specs.declared.command.Setup.{Setup}
 use Rattle.lines.specs.Lines.{Means, SetsUp}
 use Rattle.lines.specs.Numbers.{Written, WrittenPair}
@@ -24,8 +25,8 @@ range_determined text r s a b =
     ap₂ (λ f l. record { first = f; last = l }) (sym (first_determined text r.first r.last s.first s.last a b)) (sym (second_determined text r.first r.last s.first s.last a b))
 
 pub command_determined : (line : List ℕ) (c d : Command) → Means line c → Means line d → d ≡ c
-command_determined line (Add r) d m k = let q = means_add line m.0 m.1 d k in q.1 ∙ ap Add (range_determined m.0 r q.0 m.2 q.2)
-command_determined line (Drop r) d m k = let q = means_drop line m.0 m.1 d k in q.1 ∙ ap Drop (range_determined m.0 r q.0 m.2 q.2)
+command_determined line (Edit (Add r)) d m k = let q = means_add line m.0 m.1 d k in q.1 ∙ ap (λ x. Edit (Add x)) (range_determined m.0 r q.0 m.2 q.2)
+command_determined line (Edit (Drop r)) d m k = let q = means_drop line m.0 m.1 d k in q.1 ∙ ap (λ x. Edit (Drop x)) (range_determined m.0 r q.0 m.2 q.2)
 command_determined line (Ask x) d m k =
     let q = means_ask line m.0 m.1 d k in
     q.1 ∙ ap Ask (sym (one_number m.0 x q.0 m.2 q.2))

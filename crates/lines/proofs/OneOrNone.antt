@@ -5,7 +5,8 @@ use Rattle.std.specs.Str.Parse.{AllDigits, digits_value}
 use Rattle.std.proofs.lemmas.List.{take-append-drop, drop_more, take_rest}
 use Rattle.std.proofs.lemmas.Bool.{cases_eq, cases_lt}
 use Rattle.lines.specs.declared.command.Command.{Command}
-use Rattle.lines.specs.declared.command.Command.TheVariants.{Add, Drop, Ask}
+use Rattle.lines.specs.declared.command.Command.TheVariants.{Edit, Ask}
+use Rattle.rows.specs.declared.edit.Edit.TheVariants.{Add, Drop}
 use Rattle.lines.specs.Lines.{Means, SetsUp}
 use Rattle.lines.specs.Numbers.{Written, WrittenPair}
 use Rattle.lines.proofs.Meanings.{means_add, means_drop, means_ask}
@@ -89,32 +90,32 @@ setup_or_none line = from_other (Pair line) (SetsUp line) (λ p. record { width 
 
 -- a later line
 as_long : (line : List ℕ) (c : Command) → Means line c → 2 ≤ length line
-as_long line (Add r) m = let e = ap length m.1 in omega arith
-as_long line (Drop r) m = let e = ap length m.1 in omega arith
+as_long line (Edit (Add r)) m = let e = ap length m.1 in omega arith
+as_long line (Edit (Drop r)) m = let e = ap length m.1 in omega arith
 as_long line (Ask x) m = let e = ap length m.1 in omega arith
 
 second_byte : (line : List ℕ) (c : Command) → Means line c → get_or line 1 0 ≡ 32
-second_byte line (Add r) m = ap (λ t. get_or t 1 0) m.1
-second_byte line (Drop r) m = ap (λ t. get_or t 1 0) m.1
+second_byte line (Edit (Add r)) m = ap (λ t. get_or t 1 0) m.1
+second_byte line (Edit (Drop r)) m = ap (λ t. get_or t 1 0) m.1
 second_byte line (Ask x) m = ap (λ t. get_or t 1 0) m.1
 
 abbrev NoVerb : ℕ → Type 0
 NoVerb v = (v ≡ 43 → ⊥) × (v ≡ 45 → ⊥) × (v ≡ 63 → ⊥)
 
 some_verb : (line : List ℕ) (c : Command) → Means line c → NoVerb (get_or line 0 0) → ⊥
-some_verb line (Add r) m none = none.0 (ap (λ t. get_or t 0 0) m.1)
-some_verb line (Drop r) m none = none.1 (ap (λ t. get_or t 0 0) m.1)
+some_verb line (Edit (Add r)) m none = none.0 (ap (λ t. get_or t 0 0) m.1)
+some_verb line (Edit (Drop r)) m none = none.1 (ap (λ t. get_or t 0 0) m.1)
 some_verb line (Ask x) m none = none.2 (ap (λ t. get_or t 0 0) m.1)
 
 module _ (line rest : List ℕ) where
   added_or_none : line ≡ 43 ∷ (32 ∷ rest) → OneOrNone (Means line)
   added_or_none e =
-      from_other (Pair rest) (Means line) (λ p. Add record { first = p.0; last = p.1 }) (λ p w. (rest, e, w))
+      from_other (Pair rest) (Means line) (λ p. Edit (Add record { first = p.0; last = p.1 })) (λ p w. (rest, e, w))
       (λ c m. let k = means_add line rest e c m in ((k.0.first, k.0.last), k.2)) (pair_or_none rest)
 
   dropped_or_none : line ≡ 45 ∷ (32 ∷ rest) → OneOrNone (Means line)
   dropped_or_none e =
-      from_other (Pair rest) (Means line) (λ p. Drop record { first = p.0; last = p.1 }) (λ p w. (rest, e, w))
+      from_other (Pair rest) (Means line) (λ p. Edit (Drop record { first = p.0; last = p.1 })) (λ p w. (rest, e, w))
       (λ c m. let k = means_drop line rest e c m in ((k.0.first, k.0.last), k.2)) (pair_or_none rest)
 
   asked_or_none : line ≡ 63 ∷ (32 ∷ rest) → OneOrNone (Means line)

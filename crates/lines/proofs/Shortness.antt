@@ -2,7 +2,8 @@
 use Rattle.std.proofs.Common.{rules, ℕ, ◌≤◌, List, ◌∷◌, length, codes, refl, ap, arith}
 use Rattle.std.proofs.lemmas.List.{length-append}
 use Rattle.lines.specs.declared.command.Command.{Command}
-use Rattle.lines.specs.declared.command.Command.TheVariants.{Add, Drop, Ask}
+use Rattle.lines.specs.declared.command.Command.TheVariants.{Edit, Ask}
+use Rattle.rows.specs.declared.edit.Edit.TheVariants.{Add, Drop}
 use Rattle.lines.specs.Lines.{Means}
 use Rattle.lines.specs.Numbers.{WrittenPair}
 use Rattle.lines.specs.Theorems.{LinesAreShort, LinesExamples}
@@ -16,8 +17,8 @@ pair_short text x y w =
     omega arith
 
 command_short : (line : List ℕ) (c : Command) → Means line c → length line ≤ 64
-command_short line (Add r) m = let e = ap length m.1 in let k = pair_short m.0 r.first r.last m.2 in omega arith
-command_short line (Drop r) m = let e = ap length m.1 in let k = pair_short m.0 r.first r.last m.2 in omega arith
+command_short line (Edit (Add r)) m = let e = ap length m.1 in let k = pair_short m.0 r.first r.last m.2 in omega arith
+command_short line (Edit (Drop r)) m = let e = ap length m.1 in let k = pair_short m.0 r.first r.last m.2 in omega arith
 command_short line (Ask x) m = let e = ap length m.1 in let k = m.2.few in omega arith
 
 pub lines_short : LinesAreShort

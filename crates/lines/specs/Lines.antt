@@ -1,7 +1,8 @@
 -- What the console's lines mean.
 use Rattle.std.specs.Prelude.{◌≡◌, ℕ, List, ◌++◌, codes}
 use Rattle.lines.specs.declared.command.Command.{Command}
-use Rattle.lines.specs.declared.command.Command.TheVariants.{Add, Drop, Ask}
+use Rattle.lines.specs.declared.command.Command.TheVariants.{Edit, Ask}
+use Rattle.rows.specs.declared.edit.Edit.TheVariants.{Add, Drop}
 use Rattle.lines.specs.declared.command.Setup.{Setup}
 use Rattle.lines.specs.Numbers.{Written, WrittenPair}
 
@@ -11,8 +12,8 @@ VerbThen verb line P = (rest : List ℕ) × (line ≡ verb ++ (codes " " ++ rest
 
 -- the line, without its newline, is a command: "+ F L", "- F L" or "? X"
 abbrev pub Means : List ℕ → Command → Type 0
-Means line (Add range) = VerbThen (codes "+") line (λ rest. WrittenPair rest range.first range.last)
-Means line (Drop range) = VerbThen (codes "-") line (λ rest. WrittenPair rest range.first range.last)
+Means line (Edit (Add range)) = VerbThen (codes "+") line (λ rest. WrittenPair rest range.first range.last)
+Means line (Edit (Drop range)) = VerbThen (codes "-") line (λ rest. WrittenPair rest range.first range.last)
 Means line (Ask number) = VerbThen (codes "?") line (λ rest. Written rest number)
 
 -- the first line is "W S"

@@ -1,16 +1,14 @@
 // What a line asks of the console.
-use rows::range::Range;
+use rows::edit::Edit;
 
-// A line after the first. Its edits are no `Edit` of the run table: the lines would then depend on the table, and the console
-// would match as many cases.
+/// A line after the first: an edit of the set of numbers, or the question whether a number is in it.
 #[derive(Clone, Copy, PartialEq, Eq, Debug)]
 pub enum Command {
-    Add(Range),
-    Drop(Range),
+    Edit(Edit),
     Ask { number: u64 },
 }
 
-// The first line: the width, and how many slots are wished.
+/// The first line: the width, and how many slots are wished.
 #[derive(Clone, Copy, PartialEq, Eq, Debug)]
 pub struct Setup {
     pub width: u64,

@@ -5,6 +5,7 @@ ghost use Rattle.lines.specs.Lines.{Means, SetsUp};
 
 use super::command::{Command, Setup};
 use super::number::{one_number, one_range, two_numbers};
+use rows::edit::Edit;
 use rows::refusal::Refusal;
 
 // The command that a line, without its newline, stands for; refused if it stands for none.
@@ -16,8 +17,8 @@ pub fn parse_command(line: &[u8]) -> Result<Command, Refusal>
         return Err(Refusal::MalformedLine);
     };
     match char::from(*verb) {
-        '+' => one_range(numbers).map(Command::Add),
-        '-' => one_range(numbers).map(Command::Drop),
+        '+' => one_range(numbers).map(|range| Command::Edit(Edit::Add(range))),
+        '-' => one_range(numbers).map(|range| Command::Edit(Edit::Drop(range))),
         '?' => one_number(numbers).map(|number| Command::Ask { number }),
         _ => Err(Refusal::MalformedLine),
     }

@@ -1,6 +1,7 @@
 // The console on standard input and output.
 #![tactic(auto)]
 
+use column_table::ColumnTable;
 use console::failure::Failure;
 use console::help::{HELP, HINT};
 use console::run::run;
@@ -46,7 +47,7 @@ fn session(rt: &HostRuntime) -> ExitCode {
         let _ = rt.eprintln(HINT);
     }
     let ended = match BufWriter::new(rt.alloc(), rt.stdout()) {
-        Ok(mut output) => run(&mut input, &mut output),
+        Ok(mut output) => run::<ColumnTable, _, _>(&mut input, &mut output),
         Err(error) => Err(Failure::CannotWrite(error.kind())),
     };
     match ended {

@@ -1,6 +1,7 @@
 // Sessions of the console, each beside the output that an independent model computed for it.
 #![tactic(auto)]
 
+use column_table::ColumnTable;
 use console::run::run;
 use std::{fs, io};
 
@@ -28,7 +29,7 @@ fn replay(rt: &HostRuntime, name: &str) -> io::Result<()> {
     let expected = fs::read(rt, format!(in heap; "{name}.out")?)?;
     let mut unread = input.as_slice();
     let mut output = Vec::new(heap);
-    if let Err(failure) = run(&mut unread, &mut output) {
+    if let Err(failure) = run::<ColumnTable, _, _>(&mut unread, &mut output) {
         return println!(rt; "{name}: {failure}");
     }
     let verdict = if output.as_slice() == expected.as_slice() {

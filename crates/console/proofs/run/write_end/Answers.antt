@@ -55,7 +55,7 @@ returns-clause-ended g c =
     let d = g.W.Write.contents c.flush.new.self in
     λ stage line k.
     let before = c.loop-index.invariant stage line k in
-    let few = few_closing c.end_input.new.self.stage before.taken.next before.taken.stands.at_stage in
+    let few = few_closing g.D.RowDevice c.end_input.new.self.stage before.taken.next before.taken.stands.at_stage in
     let over = c.loop-index-test.false in
     let done : length (closing_lines before.taken.next) ≤ c.loop-index.index = omega arith in
     closed_all a stage line b d c.loop-index.index c.end_input.new.self c.map_err.result before done c.flush.ensures.bytes

@@ -1,6 +1,5 @@
 use Rattle.std.proofs.Common.{Some, None, sym, ◌∙◌, subst, arith}
 use Rattle.std.proofs.lemmas.Result.{err_from_is_err_and}
-use Rattle.device.specs.contracts.column_table.ColumnTableRowDevice.TheImpl.{ghosts}
 use Rattle.lines.specs.Lines.{SetsUp}
 use Rattle.rows.proofs.Widths.{places_some, places_most}
 use Rattle.console.specs.SessionStands.{Begun}
@@ -10,7 +9,7 @@ use Rattle.console.proofs.FirstLine.{width_good, width_bad, blank_ledger}
 use Rattle.console.proofs.stage.begin.Goals as goal
 
 pub returns-in_err-setup : goal.returns-in_err-setup
-returns-in_err-setup c =
+returns-in_err-setup g c =
     let p = err_from_is_err_and c.from_residual-in_err-setup.result c.from_residual-in_err-setup.ensures.1 in
     record {
       begun = λ text e.
@@ -19,7 +18,7 @@ returns-in_err-setup c =
     }
 
 pub returns-in_err-width : goal.returns-in_err-width
-returns-in_err-width c =
+returns-in_err-width g c =
     let p = err_from_is_err_and c.from_residual-in_err-width.result c.from_residual-in_err-width.ensures.1 in
     let s = c.in_ok-setup.setup in
     let no = c.in_err-width.ensures in
@@ -30,7 +29,7 @@ returns-in_err-width c =
     }
 
 pub returns : goal.returns
-returns c =
+returns g c =
     let s = c.in_ok-setup.setup in
     let w = c.in_ok-width.width in
     let made = c.in_ok-width.ensures in
@@ -41,6 +40,6 @@ returns c =
           let same = kept_line _ _ _ text c.ok_or.ensures.ok_part c.in_ok-line.was e in (
             Some s,
             subst (λ t. SetsUp t s) (sym same) c.in_ok-setup.ensures.only,
-            (width_good s (omega arith) (omega arith), subst (ConsoleStands ghosts c.open.result) (blank_ledger _ _ _ s.width 0 c.new.ensures.begins made) c.open.ensures.opened),
+            (width_good s (omega arith) (omega arith), subst (ConsoleStands c.open.result) (blank_ledger _ _ _ s.width 0 c.new.ensures.begins made) c.open.ensures.opened),
           );
     }

@@ -5,7 +5,7 @@ use Rattle.console.proofs.Bytes.{something_open, one_answered}
 use Rattle.console.proofs.session.Session.end_input.Goals as goal
 
 pub returns : goal.returns
-returns c = record {
+returns g c = record {
   ended = λ stage line k.
       let some = something_open line (sym (c.if-is_empty.ensures.value line k.open_line)) in
       let done = c.close_line.ensures.step stage line k in
