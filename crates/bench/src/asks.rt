@@ -1,13 +1,14 @@
 // Questions to both tables, with 112 filled slots.
 use super::edits::filled;
 use super::stopwatch::{CallTime, timed};
-use device::column_table::ColumnTable;
-use device::device::{MOST_SLOTS, RowDevice};
-use device::slot_record::SlotRecord;
-use device::slot_table::SlotTable;
+use column_table::ColumnTable;
+use device::device::RowDevice;
+use device::new_device::NewDevice;
 use rows::refusal::Refusal;
+use rows::slots::MOST_SLOTS;
 use rows::width::Width;
 use shown::outcome::Outcome;
+use slot_table::{SlotRecord, SlotTable};
 use std::io;
 use std::rt::Clock;
 

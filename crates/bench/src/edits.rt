@@ -1,13 +1,14 @@
 // Edits of a full filter: 16 runs and 112 rows at width 32.
 use super::stopwatch::timed;
+use column_table::ColumnTable;
 use console::console::Console;
-use device::column_table::ColumnTable;
-use device::device::{MOST_SLOTS, RowDevice};
-use device::slot_record::SlotRecord;
-use device::slot_table::SlotTable;
+use device::device::RowDevice;
+use device::new_device::NewDevice;
 use lines::reply::Reply;
+use rows::slots::MOST_SLOTS;
 use rows::width::Width;
 use shown::outcome::Outcome;
+use slot_table::{SlotRecord, SlotTable};
 use std::io;
 use std::rt::Clock;
 

@@ -1,13 +1,11 @@
 // The memory that the public types take.
+use column_table::ColumnTable;
 use console::console::Console;
 use console::failure::Failure;
 use console::session::Session;
 use covers::symbol::Symbol;
 use device::call::{DeviceAnswer, DeviceCall, DeviceExchange};
-use device::column_table::ColumnTable;
 use device::lent_device::LentDevice;
-use device::slot_record::SlotRecord;
-use device::slot_table::SlotTable;
 use filter::filter::Filter;
 use filter::hold_token::{HoldToken, RefusedRelease};
 use filter_calls::call::{FilterAnswer, FilterCall, FilterExchange, RefusedCall};
@@ -19,14 +17,16 @@ use lines::command::{Command, Setup};
 use lines::line_buffer::LineBuffer;
 use lines::print::PrintedLine;
 use lines::reply::{Reply, ReplyText};
+use ranges::runs::RunRows;
+use rows::edit::Edit;
 use rows::range::Range;
 use rows::refusal::Refusal;
 use rows::row::{Row, RowText};
 use rows::row_words::RowWords;
 use rows::width::Width;
-use run_table::edit::Edit;
 use run_table::table::RunTable;
 use sheet::sheet_size::SheetSize;
+use slot_table::{SlotRecord, SlotTable};
 use std::io;
 use std::mem::size_of;
 
@@ -45,7 +45,7 @@ pub(super) fn print(rt: &impl Print) -> io::Result<()> {
     print_all(rt, &of_the_console())
 }
 
-fn of_rows() -> [(&'static str, usize); 8] {
+fn of_rows() -> [(&'static str, usize); 9] {
     [
         ("Symbol", size_of::<Symbol>()),
         ("Refusal", size_of::<Refusal>()),
@@ -54,6 +54,7 @@ fn of_rows() -> [(&'static str, usize); 8] {
         ("Row", size_of::<Row>()),
         ("RowWords, a row in memory", size_of::<RowWords>()),
         ("RowText, a row as it is written", size_of::<RowText>()),
+        ("RunRows, the rows of runs", size_of::<RunRows>()),
         ("SheetSize", size_of::<SheetSize>()),
     ]
 }
@@ -118,6 +119,6 @@ fn of_the_console() -> [(&'static str, usize); 9] {
             "Console over a column table",
             size_of::<Console<ColumnTable>>(),
         ),
-        ("Session", size_of::<Session>()),
+        ("Session", size_of::<Session<ColumnTable>>()),
     ]
 }
