@@ -5,39 +5,26 @@ use column_table::ColumnTable;
 use console::failure::Failure;
 use console::help::{HELP, HINT};
 use console::run::run;
+use std::env;
 use std::io::{BufWriter, IsTerminal};
 use std::process::ExitCode;
-use std::{env, io};
-
-// What the arguments ask for.
-#[derive(Clone, Copy)]
-enum Wanted {
-    Session,
-    Help,
-    Unknown,
-}
 
 fn main(rt: HostRuntime) -> ExitCode {
-    match read_arguments(&rt) {
-        Ok(Wanted::Session) => session(&rt),
-        Ok(Wanted::Help) => help(&rt),
-        Ok(Wanted::Unknown) => {
-            let _ = rt.eprintln("receiver: the only argument is --help");
-            ExitCode::from(2)
-        }
-        Err(error) => failed(&rt, Failure::CannotRead(error.kind())),
+    if asks_for_help(&rt) {
+        help(&rt)
+    } else {
+        session(&rt)
     }
 }
 
-fn read_arguments(rt: &HostRuntime) -> io::Result<Wanted> {
-    let mut arguments = env::args(rt)?.skip(1);
-    let Some(first) = arguments.next() else {
-        return Ok(Wanted::Session);
+// Whether the first argument asks for the help. Any other is passed over, and so are all where one cannot be read: no
+// argument keeps a session from running.
+fn asks_for_help(rt: &HostRuntime) -> bool {
+    let Ok(mut arguments) = env::args(rt) else {
+        return false;
     };
-    match first.as_str() {
-        "--help" | "-h" => Ok(Wanted::Help),
-        _ => Ok(Wanted::Unknown),
-    }
+    let first = arguments.nth(1);
+    first.is_some_and(|first| matches!(first.as_str(), "--help" | "-h"))
 }
 
 // A session over the standard streams, where a hint stands on standard error if a user is to type.
