@@ -2,7 +2,9 @@
 #![tactic(auto)]
 
 use column_table::ColumnTable;
+use console::failure::Failure;
 use console::run::run;
+use std::io::ErrorKind;
 use std::{fs, io};
 
 const SESSIONS: [&str; 14] = [
@@ -29,9 +31,7 @@ fn replay(rt: &HostRuntime, name: &str) -> io::Result<()> {
     let expected = fs::read(rt, format!(in heap; "{name}.out")?)?;
     let mut unread = input.as_slice();
     let mut output = Vec::new(heap);
-    if let Err(failure) = run::<ColumnTable, _, _>(&mut unread, &mut output) {
-        return println!(rt; "{name}: {failure}");
-    }
+    run::<ColumnTable, _, _>(&mut unread, &mut output).map_err(as_error)?;
     let verdict = if output.as_slice() == expected.as_slice() {
         "as the model says"
     } else {
@@ -40,6 +40,14 @@ fn replay(rt: &HostRuntime, name: &str) -> io::Result<()> {
     let taken = input.len();
     let printed = output.len();
     println!(rt; "{name}: {taken} bytes in, {printed} bytes out, {verdict}")
+}
+
+// A session that fails ends the program with the error.
+fn as_error(failure: Failure) -> io::Error {
+    match failure {
+        Failure::CannotRead(kind) | Failure::CannotWrite(kind) => io::Error::from(kind),
+        Failure::TooManyTries => io::Error::from(ErrorKind::Other),
+    }
 }
 
 fn main(rt: HostRuntime) -> io::Result<()> {
