@@ -25,10 +25,12 @@ pub fn packed_size(width: Width, rows: &[RowWords]) -> Result<usize, Refusal>
 }
 
 // Writes the sheet of the rows, and answers how many bytes it has.
+#[tactic(auto, using(crate::proofs::Rows::sheet_length))]
 pub fn pack(width: Width, rows: &[RowWords], memory: &mut [u8]) -> Result<usize, Refusal>
     ensures refusal { refusal_in result ≡
         pack_fault (places_of width) rows.now (length memory.old) }
     ensures size { IfOk result (λ n. n ≡ size_of_sheet (places_of width) (length rows.now)) }
+    ensures sheet_length { IfOk result (λ n. n ≡ length (sheet_of (places_of width) rows.now)) }
     ensures packed { IfOk result (λ n.
         memory.new ≡ sheet_of (places_of width) rows.now ++ drop n memory.old) }
     ensures untouched_when_refused { is_err result ≡ true → memory.new ≡ memory.old }
