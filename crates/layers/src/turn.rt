@@ -58,5 +58,11 @@ fn read_backwards(word: u64, width: Width) -> u64
     ensures value { result ≡ turned (places_of width) word }
     ensures fits { result < 2 ^ 32 }
 {
-    word.reverse_bits() >> (64 - width.places())
+    // by as many steps as there are places: the library's reversal of a word takes 64 at every width
+    let places = width.places();
+    let mut backwards = 0;
+    for place in 0..places {
+        backwards = backwards * 2 + (word >> place) % 2;
+    }
+    backwards
 }
