@@ -8,3 +8,4 @@ pub mod RunLists
 pub mod BesideLists
 pub mod FromZero
 pub mod SeveralLists
+pub mod RowsWithin

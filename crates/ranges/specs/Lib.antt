@@ -1,4 +1,5 @@
 pub mod RangeRows
 pub mod FromZero
 pub mod SeveralRanges
+pub mod RangesWithin
 pub mod Building

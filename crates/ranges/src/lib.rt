@@ -10,6 +10,7 @@ mod lead;
 mod lists;
 mod memory;
 pub mod range;
+pub mod run_rows;
 pub mod runs;
 mod stretch;
 mod theorems;
