@@ -3,6 +3,7 @@
 
 #[cfg(test)]
 mod tests {
+    use ranges::run_rows::{row_count, write_rows};
     use ranges::runs::rows_of_runs;
     use rows::edit::Edit;
     use rows::range::Range;
@@ -36,6 +37,7 @@ mod tests {
         let table = table.after_edit(width, Edit::Add(Range::new(2, 2)))?;
         assert_eq!(rt; table.len(), 1);
         assert_eq!(rt; table.get(0), Some((0, 7)));
+        assert_eq!(rt; row_count(width, table.runs()), 1);
         assert_eq!(rt; rows_of_runs(width, table.runs(), 1)?.len(), 1);
         Ok(())
     }
@@ -113,6 +115,75 @@ mod tests {
         assert_eq!(rt; rows[0], RowWords { value: 1, care: 7 });
         assert_eq!(rt; rows[1], RowWords { value: 2, care: 7 });
         assert_eq!(rt; rows[2], RowWords { value: 4, care: 6 });
+        Ok(())
+    }
+
+    #[test]
+    fn rows_of_all_runs_in_memory(rt: HostRuntime) -> Result<(), Fail> {
+        let width = Width::try_from(3)?;
+        let table = RunTable::empty().after_edit(width, Edit::Add(Range::new(1, 2)))?;
+        let table = table.after_edit(width, Edit::Add(Range::new(4, 5)))?;
+        let old = RowWords { value: 7, care: 7 };
+        let mut memory = [old; 4];
+        assert_eq!(rt;
+            write_rows(width, table.runs(), &mut memory[0..2]),
+            Err(Refusal::MemoryTooShort)
+        );
+        assert_eq!(rt; memory[0], old);
+        assert_eq!(rt; write_rows(width, table.runs(), &mut memory), Ok(3));
+        assert_eq!(rt; memory[0], RowWords { value: 1, care: 7 });
+        assert_eq!(rt; memory[1], RowWords { value: 2, care: 7 });
+        assert_eq!(rt; memory[2], RowWords { value: 4, care: 6 });
+        assert_eq!(rt; memory[3], old);
+        Ok(())
+    }
+
+    // More rows than any device has slots.
+    #[test]
+    fn more_rows_than_120(rt: HostRuntime) -> Result<(), Fail> {
+        let width = Width::try_from(32)?;
+        let mut table = RunTable::empty();
+        for k in 0u64..5 {
+            let run = Range::new(k * 268_435_456 + 1, k * 268_435_456 + 268_435_454);
+            table = table.after_edit(width, Edit::Add(run))?;
+        }
+        assert_eq!(rt; table.len(), 5);
+        assert_eq!(rt; row_count(width, table.runs()), 140);
+        let old = RowWords { value: 7, care: 7 };
+        let mut memory = [old; 141];
+        assert_eq!(rt;
+            write_rows(width, table.runs(), &mut memory[0..139]),
+            Err(Refusal::MemoryTooShort)
+        );
+        assert_eq!(rt; memory[0], old);
+        assert_eq!(rt;
+            write_rows(width, table.runs(), &mut memory[0..140]),
+            Ok(140)
+        );
+        assert!(rt; memory[0] != old && memory[139] != old);
+        assert_eq!(rt; memory[140], old);
+        Ok(())
+    }
+
+    // A run with an end outside the width has no rows.
+    #[test]
+    fn a_table_at_a_narrower_width(rt: HostRuntime) -> Result<(), Fail> {
+        let built = Width::try_from(8)?;
+        let table = RunTable::empty().after_edit(built, Edit::Add(Range::new(1, 2)))?;
+        let table = table.after_edit(built, Edit::Add(Range::new(4, 5)))?;
+        let table = table.after_edit(built, Edit::Add(Range::new(7, 200)))?;
+        assert_eq!(rt; table.len(), 3);
+        let width = Width::try_from(3)?;
+        let refused = rows_of_runs(width, table.runs(), 120).err();
+        assert_eq!(rt; refused, Some(Refusal::NumberOutsideWidth));
+        assert_eq!(rt; row_count(width, table.runs()), 3);
+        let old = RowWords { value: 7, care: 7 };
+        let mut memory = [old; 4];
+        assert_eq!(rt; write_rows(width, table.runs(), &mut memory), Ok(3));
+        assert_eq!(rt; memory[0], RowWords { value: 1, care: 7 });
+        assert_eq!(rt; memory[1], RowWords { value: 2, care: 7 });
+        assert_eq!(rt; memory[2], RowWords { value: 4, care: 6 });
+        assert_eq!(rt; memory[3], old);
         Ok(())
     }
 }
