@@ -14,7 +14,7 @@ use Rattle.column_table.specs.declared.table.ColumnTable.{ColumnTable}
 use Rattle.device.specs.States.{SlotWithin, Lawful}
 use Rattle.rows.specs.MadeRows.{row_made}
 use Rattle.column_table.specs.Columns.{column_symbol, blank_column, one_more, slot_symbols, slot_with, column_slot, column_slots}
-use Rattle.column_table.specs.ColumnTables.{column_table_state}
+use Rattle.column_table.specs.ColumnTables.{slot_count, column_table_state}
 
 -- so many symbols, or nothing
 abbrev pub Counts : ℕ → Option Symbols → Type 0
@@ -46,6 +46,6 @@ column_table_lawful t =
     record {
       some_place = places_some t.width;
       few_places = places_most t.width;
-      few_slots = let few = t.few in omega (arith, length-map-range_with_len (column_slot (places_of t.width) t.columns) 0 t.count);
-      rows_within = slots_within (places_of t.width) t.columns (range_with_len 0 t.count);
+      few_slots = omega (arith, length-map-range_with_len (column_slot (places_of t.width) t.columns) 0 (slot_count t));
+      rows_within = slots_within (places_of t.width) t.columns (range_with_len 0 (slot_count t));
     }

@@ -5,6 +5,7 @@ ghost use Rattle.rows.specs.declared.refusal.Refusal.TheVariants.{NoSuchSlot};
 ghost use Rattle.rows.specs.Widths.{places_of};
 ghost use Rattle.device.specs.States.{slot_takes};
 ghost use Rattle.column_table.specs.Columns.{column_symbol, column_slot, row_symbol, blank_column};
+ghost use Rattle.column_table.specs.ColumnTables.{slot_count};
 
 use super::column::Column;
 use super::slot_set::SlotSet;
@@ -21,33 +22,34 @@ use rows::slots::MOST_SLOTS;
 use rows::width::Width;
 
 /// A device by sets of slots: at each place, those with a row that admits a 0 there, and those with one that admits a 1.
+// Of the wished count at most 120 are slots, so every value of the fields is a table.
 #[derive(Drop)]
 pub struct ColumnTable {
     width: Width,
     count: usize,
     columns: [Column; 32],
     muted: bool,
-    ghost few: { count ≤ 120 },
 }
 
+#[tactic(auto, using(crate::proofs::Columns::column_length))]
 impl ColumnTable {
     // The slot of this index, refused if there are not so many slots.
     fn check_slot(&self, index: usize) -> Result<TableSlot, Refusal>
-        ensures ok { IfOk result (λ slot. (slot.index ≡ index) × (index < self.now.count)) }
-        ensures refusal { IfErr result (λ e. (e ≡ NoSuchSlot) × (self.now.count ≤ index)) }
+        ensures ok { IfOk result (λ slot. (slot.index ≡ index) × (index < slot_count self.now)) }
+        ensures refusal { IfErr result (λ e. (e ≡ NoSuchSlot) × (slot_count self.now ≤ index)) }
     {
-        check_slot(index, self.count)?;
+        check_slot(index, self.slot_count())?;
         Ok(TableSlot { index })
     }
 
     // The slots whose row takes the number: the sets of its digits, intersected.
     fn taking(&self, number: u64) -> SlotSet
-        ensures value { (i : ℕ) → digit i result.bits ≡ (nat_lt i self.now.count
+        ensures value { (i : ℕ) → digit i result.bits ≡ (nat_lt i (slot_count self.now)
             && slot_takes (column_slot (places_of self.now.width) self.now.columns i) number) }
     {
         let places = self.width.places() as usize;
         let mut slots = SlotSet {
-            bits: (1 << self.count) - 1,
+            bits: (1 << self.slot_count()) - 1,
         };
         for (place, column) in self.columns[..places].iter().enumerate() {
             slots.intersect(column.admitting(has_one(number, place as u32)));
@@ -128,7 +130,7 @@ impl RowDevice for ColumnTable {
     }
 
     fn slot_count(&self) -> usize {
-        self.count
+        self.count.min(MOST_SLOTS)
     }
 }
 
@@ -136,7 +138,7 @@ impl NewDevice for ColumnTable {
     fn new(width: Width, slots: usize) -> ColumnTable {
         ColumnTable {
             width,
-            count: slots.min(MOST_SLOTS),
+            count: slots,
             columns: [Column::BLANK; 32],
             muted: false,
         }

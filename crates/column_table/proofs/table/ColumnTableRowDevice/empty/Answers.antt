@@ -1,6 +1,7 @@
 use Rattle.std.proofs.Common.{◌≡◌, ◌<◌, length, None, arith, rules}
 use Rattle.rows.specs.Widths.{places_of}
 use Rattle.column_table.specs.Columns.{column_slots}
+use Rattle.column_table.specs.ColumnTables.{slot_count}
 use Rattle.column_table.proofs.Columns.{Writes, column_length}
 use Rattle.column_table.proofs.ColumnTables.{table_emptied}
 use Rattle.column_table.proofs.table.ColumnTableRowDevice.empty.Goals as goal
@@ -11,7 +12,7 @@ returns-clause-after c =
     let slot = c.args.slot in
     let is = c.write.new.columns in
     let same : c.in_ok-slot.slot.index ≡ slot = search rules in
-    let short : slot < t.count = search rules in
-    let within : slot < length (column_slots (places_of t.width) t.columns t.count) = omega (arith, column_length (places_of t.width) t.columns t.count) in
+    let short : slot < slot_count t = search rules in
+    let within : slot < length (column_slots (places_of t.width) t.columns (slot_count t)) = omega (arith, column_length (places_of t.width) t.columns (slot_count t)) in
     let written : Writes t.columns is slot None 32 = rw same at c.write.ensures.value in
     table_emptied t is slot within written
