@@ -13,6 +13,7 @@ mod closing;
 mod edits;
 #[cfg(test)]
 mod layered;
+mod logged;
 #[cfg(test)]
 mod piles;
 #[cfg(test)]
