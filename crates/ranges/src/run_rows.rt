@@ -48,7 +48,8 @@ pub fn write_rows(width: Width, runs: &[Range], memory: &mut [RowWords]) -> Resu
     ensures untouched_when_refused { is_err result ≡ true → memory.new ≡ memory.old }
 {
     let count = row_count(width, runs);
-    if count > memory.len() {
+    let room = memory.len();
+    if count > room {
         return Err(Refusal::MemoryTooShort);
     }
     write_rows_of(width, runs, memory);

@@ -19,8 +19,8 @@ write_rows_of-requires c =
     let k = c.row_count-count.ensures.at_any_length in
     record { room = omega arith }
 
-pub returns-then-count-memory : goal.returns-then-count-memory
-returns-then-count-memory c =
+pub returns-then-count-room : goal.returns-then-count-room
+returns-then-count-room c =
     let rows = rows_of_ranges_within (places_of c.args.width) (ranges_of c.args.runs.now) in
     let e = c.row_count-count.ensures.at_any_length in
     record {
