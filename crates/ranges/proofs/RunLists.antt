@@ -15,13 +15,14 @@ use Rattle.covers.specs.Rules.{swap_first, straight_rows, round_rows, rows_of_ru
 use Rattle.covers.proofs.Equations.{equations_hold}
 use Rattle.covers.proofs.RowWords.{symbols_back, care_word_fits, clean_word}
 use Rattle.covers.proofs.Lists.{all_map}
+use Rattle.covers.proofs.RangeLists.{range_few, most_few}
 use Rattle.covers.proofs.RowLengths.{Long, straight_rows_long, round_rows_long}
 use Rattle.rows.specs.declared.row_words.RowWords.{RowWords}
 use Rattle.ranges.specs.declared.front.Front.{Front}
 use Rattle.ranges.specs.declared.lead.Lead.{Lead}
 use Rattle.ranges.specs.declared.ends.Ends.{Ends}
 use Rattle.ranges.specs.declared.stretch.Stretch.{Stretch}
-use Rattle.ranges.specs.Building.{behind_words, behind_front, behind_lead, across_rows, straight_words, round_words, stretch_words, Extended, Begun, Split, Parted, EndsOf, Alone}
+use Rattle.ranges.specs.Building.{behind_words, behind_front, behind_lead, across_rows, straight_words, round_words, stretch_words, range_words, Extended, Begun, Split, Parted, EndsOf, Alone}
 use Rattle.rows.specs.Memory.{rows_of, words_of}
 use Rattle.rows.specs.Widths.{in_width}
 use Rattle.ranges.specs.RangeRows.{range_answer, rows_in}
@@ -295,6 +296,17 @@ module _ {n f l : ℕ} {ends : Ends} (of : EndsOf n f l ends) where
       ap (λ k. map words_of (rows_of_run k run.first run.last)) p ∙ ap₂ (λ j k. map words_of (rows_of_run ends.places j k)) a b ∙
       ap (λ k. map words_of (rows_of_run k (run_first ends.first ends.last) (run_last k ends.first ends.last))) of.places ∙
       ap₂ (λ j k. map words_of (rows_of_run n (run_first j k) (run_last n j k))) of.first of.last
+
+  pub range_made : range_words ends ≡ map words_of (rows_of_range n f l)
+  range_made = ap (λ k. map words_of (rows_of_range k ends.first ends.last)) of.places ∙ ap₂ (λ j k. map words_of (rows_of_range n j k)) of.first of.last
+
+  -- they are no more than there is room for
+  pub range_fits : 1 ≤ n → n ≤ 32 → length (range_words ends) ≤ 62
+  range_fits some most =
+      let k = ap length range_made ∙ length-map (rows_of_range n f l) words_of in
+      let few = range_few n f l some in
+      let top = most_few n most in
+      omega arith
 
 -- a range of the width is granted where memory has room
 pub range_granted : (n f l room : ℕ) → f < 2 ^ n → l < 2 ^ n → length (rows_of_range n f l) ≤ room → range_answer n f l room ≡ Ok (length (rows_of_range n f l))

@@ -5,10 +5,11 @@ use Rattle.covers.specs.declared.symbol.Symbol.TheVariants.{Zero, One, Dash}
 use Rattle.covers.specs.Symbols.{Symbols}
 use Rattle.covers.specs.Words.{value_word, care_word}
 use Rattle.covers.specs.Digits.{digit}
-use Rattle.covers.specs.Rules.{swap, straight_rows, round_rows, rows_of_run}
+use Rattle.covers.specs.Rules.{swap, straight_rows, round_rows, rows_of_run, rows_of_range}
 use Rattle.rows.specs.declared.row_words.RowWords.{RowWords}
 use Rattle.rows.specs.declared.refusal.Refusal.{Refusal}
 use Rattle.rows.specs.declared.refusal.Refusal.TheVariants.{NumberOutsideWidth}
+use Rattle.rows.specs.Memory.{words_of}
 use Rattle.rows.specs.Widths.{in_width}
 use Rattle.ranges.specs.declared.front.Front.{Front}
 use Rattle.ranges.specs.declared.lead.Lead.{Lead}
@@ -125,6 +126,10 @@ round_words stretch = map (behind_front stretch.front) (round_rows stretch.ends.
 
 abbrev pub stretch_words : Stretch → List RowWords
 stretch_words stretch = map (behind_front stretch.front) (rows_of_run stretch.ends.places stretch.ends.first stretch.ends.last)
+
+-- the words of the range with these ends
+abbrev pub range_words : Ends → List RowWords
+range_words ends = map words_of (rows_of_range ends.places ends.first ends.last)
 
 -- the stretch has these ends, and nothing before them
 pub record Alone (of : Ends) (stretch : Stretch) : Type 0 where

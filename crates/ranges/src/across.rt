@@ -20,13 +20,13 @@ impl Across {
     ghost use Rattle.arrayvec.specs.ArrayVec.{Extends};
     ghost use Rattle.ranges.specs.Building.{HasRoom, Split, across_words, zero_words, one_words, edge_words};
 
-    // Adds the rows. The inner range of a middle rule is one place shorter.
+    // Adds the rows. The inner range of a middle rule is one place shorter, and stands here in its place.
     #[tactic(auto, using(crate::proofs::AcrossLists::across_some))]
-    pub(super) fn write(self, rows: &mut RowList)
-        requires room { HasRoom rows.old (across_words self) }
-        ensures rows { Extends rows.old (across_words self) rows.new }
+    pub(super) fn write(&mut self, rows: &mut RowList)
+        requires room { HasRoom rows.old (across_words self.old) }
+        ensures rows { Extends rows.old (across_words self.old) rows.new }
     {
-        let Across { lead, ends } = self;
+        let Across { lead, ends } = *self;
         if ends.first == 0 {
             return self.write_from_zero(rows);
         }
@@ -48,20 +48,23 @@ impl Across {
                 // the third quarter is whole
                 rows.push(lead.one.with_digit(false).words);
                 let lead = lead.inserted(true);
-                Across { lead, ends: rest }.write(rows);
+                *self = Across { lead, ends: rest };
+                self.write(rows);
             }
             (false, false) => {
                 // the second quarter is whole
                 rows.push(lead.zero.with_digit(true).words);
                 let lead = lead.inserted(false);
-                Across { lead, ends: rest }.write(rows);
+                *self = Across { lead, ends: rest };
+                self.write(rows);
             }
             (false, true) if rest.first > rest.last + 1 => self.write_apart(rest, rows),
             (false, true) => {
                 // the ends overlap
                 rows.push(lead.zero.with_digit(true).words);
                 let lead = lead.widened();
-                Across { lead, ends: rest }.write(rows);
+                *self = Across { lead, ends: rest };
+                self.write(rows);
             }
         }
     }

@@ -1,12 +1,14 @@
 // The rows of a range.
 ghost use Rattle.std.specs.Prelude.{◌≡◌, ◌+◌, ◌^◌, ◌<◌, ◌≤◌, true, cond, ◌++◌, map, length, take, drop, Ok, Err, is_err, IfOk, nat_le, bit_and, count_ones};
 ghost use Rattle.std.specs.List.{AllByRecursion};
+ghost use Rattle.arrayvec.specs.ArrayVec.{Extends};
 ghost use Rattle.covers.specs.Rivals.{in_range, Shortest, TakesPrecisely};
 ghost use Rattle.covers.specs.Rules.{most_rows, rows_of_range};
 ghost use Rattle.rows.specs.Memory.{words_of};
 ghost use Rattle.rows.specs.declared.refusal.Refusal.TheVariants.{MemoryTooShort};
+ghost use Rattle.ranges.specs.Building.{HasRoom, range_words};
 ghost use Rattle.ranges.specs.FromZero.{rows_below};
-ghost use Rattle.ranges.specs.RangeRows.{ListMade, range_answer, rows_in};
+ghost use Rattle.ranges.specs.RangeRows.{range_answer, rows_in};
 ghost use Rattle.rows.specs.Widths.{places_of};
 
 use super::ends::Ends;
@@ -41,16 +43,17 @@ pub fn rows_of_range(width: Width, range: Range, memory: &mut [RowWords]) -> Res
     ensures exact { IfOk result (λ k. TakesPrecisely (places_of width) (rows_in (places_of width) k memory.new) (in_range range.first range.last)) }
     ensures shortest { IfOk result (λ k. Shortest (places_of width) (rows_in (places_of width) k memory.new)) }
 {
-    let rows = list_of_range(width, range)?;
+    let ends = Ends::of(width, range)?;
+    let mut rows = RowList::new();
+    write_rows(ends, &mut rows);
     hand_over(&rows, memory)
 }
 
-// The rows of the range; refused if an end is no number of the width.
-pub(super) fn list_of_range(width: Width, range: Range) -> Result<RowList, Refusal>
-    ensures made { ListMade (places_of width) range.first range.last result }
+// Adds the rows of the range.
+pub(super) fn write_rows(ends: Ends, rows: &mut RowList)
+    requires room { HasRoom rows.old (range_words ends) }
+    ensures rows { Extends rows.old (range_words ends) rows.new }
 {
-    let ends = Ends::of(width, range)?;
-    let mut rows = RowList::new();
-    Stretch::of(ends.run()).write(&mut rows);
-    Ok(rows)
+    let mut stretch = Stretch::of(ends.run());
+    stretch.write(rows);
 }

@@ -10,7 +10,9 @@ ghost use Rattle.rows.specs.Ranges.{ranges_of};
 ghost use Rattle.rows.specs.Widths.{places_of};
 ghost use Rattle.ranges.specs.SeveralRanges.{all_in_width, rows_of_ranges, RowsMade, RunsOf};
 
-use super::range::list_of_range;
+use super::ends::Ends;
+use super::lists::RowList;
+use super::range::write_rows;
 use arrayvec::ArrayVec;
 use rows::range::Range;
 use rows::refusal::Refusal;
@@ -48,7 +50,9 @@ pub fn rows_of_runs(width: Width, runs: &[Range], room: usize) -> Result<RunRows
     }
     let mut rows = RunRows::new();
     for run in runs {
-        let more = list_of_range(width, *run)?;
+        let ends = Ends::of(width, *run)?;
+        let mut more = RowList::new();
+        write_rows(ends, &mut more);
         append(&mut rows, &more, room)?;
     }
     Ok(rows)

@@ -32,9 +32,9 @@ impl Stretch {
     }
 
     // Adds the rows.
-    pub(super) fn write(self, rows: &mut RowList)
-        requires room { HasRoom rows.old (stretch_words self) }
-        ensures rows { Extends rows.old (stretch_words self) rows.new }
+    pub(super) fn write(&mut self, rows: &mut RowList)
+        requires room { HasRoom rows.old (stretch_words self.old) }
+        ensures rows { Extends rows.old (stretch_words self.old) rows.new }
     {
         if self.ends.first <= self.ends.last {
             self.write_straight(rows);
@@ -55,7 +55,8 @@ impl Stretch {
         } else {
             let lead = Lead::behind(front, false);
             let ends = ends.behind_first_digits();
-            Across { lead, ends }.write(rows);
+            let mut across = Across { lead, ends };
+            across.write(rows);
         }
     }
 
@@ -77,13 +78,13 @@ impl Stretch {
         Stretch { front, ends: rest }
     }
 
-    // Adds the rows of first to the highest number and of 0 to last.
-    fn write_round(self, rows: &mut RowList)
-        requires round { self.ends.last < self.ends.first }
-        requires room { HasRoom rows.old (round_words self) }
-        ensures rows { Extends rows.old (round_words self) rows.new }
+    // Adds the rows of first to the highest number and of 0 to last. What is left behind a digit stands here in its place.
+    fn write_round(&mut self, rows: &mut RowList)
+        requires round { self.old.ends.last < self.old.ends.first }
+        requires room { HasRoom rows.old (round_words self.old) }
+        ensures rows { Extends rows.old (round_words self.old) rows.new }
     {
-        let Stretch { front, ends } = self;
+        let Stretch { front, ends } = *self;
         let rest = ends.behind_first_digits();
         let place = rest.places;
         match (has_one(ends.first, place), has_one(ends.last, place)) {
@@ -91,17 +92,20 @@ impl Stretch {
                 // both ends begin with 0: all that begin with 1 are in
                 rows.push(front.with_digit(true).words);
                 let front = front.with_digit(false);
-                Stretch { front, ends: rest }.write_round(rows);
+                *self = Stretch { front, ends: rest };
+                self.write_round(rows);
             }
             (true, true) => {
                 // both ends begin with 1: all that begin with 0 are in
                 rows.push(front.with_digit(false).words);
                 let front = front.with_digit(true);
-                Stretch { front, ends: rest }.write_round(rows);
+                *self = Stretch { front, ends: rest };
+                self.write_round(rows);
             }
             (true, false) => {
                 let lead = Lead::behind(front, true);
-                Across { lead, ends: rest }.write(rows);
+                let mut across = Across { lead, ends: rest };
+                across.write(rows);
             }
         }
     }

@@ -1,4 +1,4 @@
-use Rattle.std.proofs.Common.{◌≡◌, ◌+◌, ◌^◌, ◌<◌, ◌≤◌, take, cond, ◌++◌, map, length, drop, Ok, Err, sym, ap, ◌∙◌, subst}
+use Rattle.std.proofs.Common.{◌≡◌, ◌+◌, ◌^◌, ◌<◌, ◌≤◌, take, cond, ◌++◌, map, length, drop, Ok, Err, sym, ap, ◌∙◌, subst, ap₂, arith}
 use Rattle.std.specs.Prelude.{nat_le}
 use Rattle.std.proofs.lemmas.List.{length-map}
 use Rattle.covers.specs.Rivals.{in_range, TakesPrecisely, Shortest}
@@ -7,15 +7,21 @@ use Rattle.covers.proofs.RangeLists.{range_exact, range_shortest, range_long, ra
 use Rattle.rows.specs.declared.refusal.Refusal.TheVariants.{NumberOutsideWidth, MemoryTooShort}
 use Rattle.rows.specs.Memory.{words_of}
 use Rattle.rows.specs.Widths.{places_of}
-use Rattle.rows.proofs.Widths.{places_some}
+use Rattle.rows.proofs.Widths.{places_some, places_most}
 use Rattle.ranges.specs.RangeRows.{rows_in}
 use Rattle.ranges.proofs.Handing.{handed, handed_answer}
-use Rattle.ranges.proofs.RunLists.{first_rows, rows_read, within_fit, words_clean, words_within}
+use Rattle.ranges.proofs.RunLists.{ends_fit, ends_granted, first_rows, range_fits, range_made, rows_read, words_clean, words_within}
 use Rattle.ranges.specs.FromZero.{rows_below}
 use Rattle.ranges.proofs.FromZero.{zero_words, zero_answer}
 use Rattle.std.specs.List.{AllByRecursion}
 use lib.Bits.{bit_and}
 use Rattle.ranges.proofs.range.rows_of_range.Goals as goal
+
+pub write_rows-requires : goal.write_rows-requires
+write_rows-requires c =
+    let fits = range_fits c.in_ok-ends.ensures.made (places_some c.args.width) (places_most c.args.width) in
+    let none = ap length c.new-rows.ensures in
+    record { room = omega arith }
 
 pub returns : goal.returns
 returns c =
@@ -23,11 +29,11 @@ returns c =
     let n = places_of w in
     let f = c.args.range.first in
     let l = c.args.range.last in
-    let made = c.in_ok-rows.ensures.made in
-    let ends = within_fit n f l made.0 in
+    let made = c.in_ok-ends.ensures.made in
+    let ends = ends_fit made in
     let rows = rows_of_range n f l in
     let long = length-map rows words_of in
-    let all : c.deref.result.now ≡ map words_of rows = c.deref.ensures.0 ∙ made.1 in
+    let all : c.deref.result.now ≡ map words_of rows = c.deref.ensures.0 ∙ c.write_rows.ensures.rows ∙ ap₂ (λ x y. x ++ y) c.new-rows.ensures (range_made made) in
     let over = c.hand_over.ensures in
     let granted = handed c.deref.result.now c.args.memory.now c.hand_over.new.memory (map words_of rows) c.hand_over.result over.answer over.copied all in
     let read : c.hand_over.new.memory ≡ map words_of rows ++ drop (length (map words_of rows)) c.args.memory.now → rows_in n (length (map words_of rows)) c.hand_over.new.memory ≡ rows = λ at.
@@ -35,7 +41,7 @@ returns c =
     let answer =
     handed_answer c.deref.result.now c.args.memory.now c.hand_over.new.memory (map words_of rows) c.hand_over.result over.answer over.copied all ∙
     ap (λ k. cond (nat_le k (length c.args.memory.now)) (Ok k) (Err MemoryTooShort)) long ∙
-    ap (λ b. cond b (cond (nat_le (length rows) (length c.args.memory.now)) (Ok (length rows)) (Err MemoryTooShort)) (Err NumberOutsideWidth)) (sym made.0) in
+    ap (λ b. cond b (cond (nat_le (length rows) (length c.args.memory.now)) (Ok (length rows)) (Err MemoryTooShort)) (Err NumberOutsideWidth)) (sym (ends_granted made)) in
     let first : c.hand_over.new.memory ≡ map words_of rows ++ drop (length (map words_of rows)) c.args.memory.now → take (length (map words_of rows)) c.hand_over.new.memory ≡ map words_of rows = λ at.
     ap (take (length (map words_of rows))) at ∙ first_rows rows (drop (length (map words_of rows)) c.args.memory.now) (length (map words_of rows)) long in
     record {

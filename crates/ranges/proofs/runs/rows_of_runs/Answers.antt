@@ -1,13 +1,16 @@
-use Rattle.std.proofs.Common.{Ok, ◌≡◌, length, map, sym, ap, ◌∙◌, arith}
+use Rattle.std.proofs.Common.{Ok, ◌≡◌, ◌++◌, length, map, sym, ap, ap₂, ◌∙◌, arith}
 use Rattle.std.proofs.lemmas.Bool.{false≢true}
 use Rattle.std.proofs.lemmas.List.{length-map, take_all}
 use Rattle.std.proofs.lemmas.Result.{err_from_is_err_and}
 use Rattle.rows.specs.Memory.{words_of}
 use Rattle.rows.specs.Ranges.{ranges_of}
 use Rattle.rows.specs.Widths.{places_of}
+use Rattle.rows.proofs.Widths.{places_some, places_most}
 use Rattle.ranges.specs.SeveralRanges.{rows_of_ranges}
 use Rattle.ranges.proofs.SeveralLists.{its_runs_within, made_clean, made_within, more_counted, more_rows, more_within_all, one_outside, read_exact, read_set, set_made, too_many}
+use Rattle.ranges.proofs.RunLists.{range_fits, range_made}
 use Rattle.ranges.proofs.runs.rows_of_runs.Goals as goal
+use Rattle.ranges.proofs.runs.rows_of_runs.Goals.{After-from_residual}
 
 pub returns-then-not-all_within-clause-of_set : goal.returns-then-not-all_within-clause-of_set
 returns-then-not-all_within-clause-of_set c = λ S of. absurd (false≢true (c.if-not-all_within.ensures.value ∙ its_runs_within (places_of c.args.width) S (ranges_of c.args.runs.now) of))
@@ -16,23 +19,29 @@ pub loop-run-init : goal.loop-run-init
 loop-run-init c = (c.new-rows.ensures, omega arith)
 
 -- a run of the width is not refused
-within : (c : goal.After-from_residual) → ⊥
+within : (c : After-from_residual) → ⊥
 within c =
     let n = places_of c.args.width in
     let R = c.args.runs.now in
-    false≢true (sym (one_outside n R c.loop-run.run-index c.loop-run-test.true c.in_err-more.ensures.made.0) ∙ sym c.if-not-all_within.ensures.value)
+    false≢true (sym (one_outside n R c.loop-run.run-index c.loop-run-test.true c.in_err-ends.ensures.made.0) ∙ sym c.if-not-all_within.ensures.value)
 
-pub returns-in_err-more-clause-made : goal.returns-in_err-more-clause-made
-returns-in_err-more-clause-made c = λ all. absurd (within c)
+pub returns-in_err-ends-clause-made : goal.returns-in_err-ends-clause-made
+returns-in_err-ends-clause-made c = λ all. absurd (within c)
 
-pub returns-in_err-more-clause-of_set : goal.returns-in_err-more-clause-of_set
-returns-in_err-more-clause-of_set c = λ S of. absurd (within c)
+pub returns-in_err-ends-clause-of_set : goal.returns-in_err-ends-clause-of_set
+returns-in_err-ends-clause-of_set c = λ S of. absurd (within c)
+
+pub write_rows-requires : goal.write_rows-requires
+write_rows-requires c =
+    let fits = range_fits c.in_ok-ends.ensures.made (places_some c.args.width) (places_most c.args.width) in
+    let none = ap length c.new-more.ensures in
+    record { room = omega arith }
 
 pub returns-in_err-append-clause-made : goal.returns-in_err-append-clause-made
 returns-in_err-append-clause-made c = λ all.
     let n = places_of c.args.width in
     let R = c.args.runs.now in
-    let next = c.deref.ensures.0 ∙ c.in_ok-more.ensures.made.1 in
+    let next = c.deref.ensures.0 ∙ c.write_rows.ensures.rows ∙ ap₂ (λ x y. x ++ y) c.new-more.ensures (range_made c.in_ok-ends.ensures.made) in
     let over = c.in_err-append.ensures.refusal in
     let full = more_within_all n R c.loop-run.run-index c.loop-run-test.true c.loop-run.rows.items c.deref.result.now c.loop-run.invariant.0 next in
     let e = err_from_is_err_and c.from_residual-in_err-append.result c.from_residual-in_err-append.ensures.1 in
@@ -46,7 +55,7 @@ loop-run-preserved c =
     let n = places_of c.args.width in
     let R = c.args.runs.now in
     let i = c.loop-run.run-index in
-    let next = c.deref.ensures.0 ∙ c.in_ok-more.ensures.made.1 in
+    let next = c.deref.ensures.0 ∙ c.write_rows.ensures.rows ∙ ap₂ (λ x y. x ++ y) c.new-more.ensures (range_made c.in_ok-ends.ensures.made) in
     let rows = more_rows n R i c.loop-run-test.true c.loop-run.rows.items c.deref.result.now c.loop-run.invariant.0 next in
     let count = more_counted n R i c.loop-run-test.true c.loop-run.rows.items c.deref.result.now c.loop-run.invariant.0 next in
     let grown = c.in_ok-append.ensures.appended in

@@ -8,7 +8,7 @@ use Rattle.ranges.proofs.across.Across.+write.Goals as goal
 
 pub write-requires : goal.write-requires
 write-requires t c =
-    let k = ap length (to_highest_at c.args.self c.if-ends-eq0.false (at_top _ _ c.reaches_highest.ensures.value c.if-reaches_highest.true)) in
+    let k = ap length (to_highest_at c.args.self.now c.if-ends-eq0.false (at_top _ _ c.reaches_highest.ensures.value c.if-reaches_highest.true)) in
     let n = ap length c.from_first.ensures.words in
     let room = c.requires.room in
     let more = c.push.ensures.len in
@@ -16,15 +16,15 @@ write-requires t c =
 
 pub returns-then-reaches_highest : goal.returns-then-reaches_highest
 returns-then-reaches_highest t c =
-    let one = c.args.self.lead.one.words in
-    let all = to_highest_at c.args.self c.if-ends-eq0.false (at_top _ _ c.reaches_highest.ensures.value c.if-reaches_highest.true) in
+    let one = c.args.self.now.lead.one.words in
+    let all = to_highest_at c.args.self.now c.if-ends-eq0.false (at_top _ _ c.reaches_highest.ensures.value c.if-reaches_highest.true) in
     record { rows = followed c.args.rows.now.items (one ∷ []) (edge_words c.from_first.result) c.push.ensures.items c.write.ensures.rows (all ∙ ap (λ l. one ∷ l) (sym c.from_first.ensures.words)) }
 
 -- both ends lie in the inner quarters
 pub write-requires-in-true-false : goal.write-requires-in-true-false
 write-requires-in-true-false t c =
     let rest = c.behind_first_digits-rest in
-    let all = inner_quarters_at c.args.self rest.result rest.ensures.split (sym c.in-true-false.ensures.value) (sym c.in-true-false.ensures'.value) c.with_digits-lead.ensures.digits in
+    let all = inner_quarters_at c.args.self.now rest.result rest.ensures.split (sym c.in-true-false.ensures.value) (sym c.in-true-false.ensures'.value) c.with_digits-lead.ensures.digits in
     let k = ap length all ∙ length-append (zero_words c.with_digits-lead.result rest.result) _ in
     let n = ap length c.from_first-in-true-false.ensures.words in
     let room = c.requires.room in
@@ -33,7 +33,7 @@ write-requires-in-true-false t c =
 pub write-requires-in-true-false-2 : goal.write-requires-in-true-false-2
 write-requires-in-true-false-2 t c =
     let rest = c.behind_first_digits-rest in
-    let all = inner_quarters_at c.args.self rest.result rest.ensures.split (sym c.in-true-false.ensures.value) (sym c.in-true-false.ensures'.value) c.with_digits-lead.ensures.digits in
+    let all = inner_quarters_at c.args.self.now rest.result rest.ensures.split (sym c.in-true-false.ensures.value) (sym c.in-true-false.ensures'.value) c.with_digits-lead.ensures.digits in
     let k = ap length all ∙ length-append (zero_words c.with_digits-lead.result rest.result) _ in
     let n = ap length c.from_first-in-true-false.ensures.words in
     let m = ap length c.to_last.ensures.words in
@@ -44,7 +44,7 @@ write-requires-in-true-false-2 t c =
 pub returns-in-true-false : goal.returns-in-true-false
 returns-in-true-false t c =
     let rest = c.behind_first_digits-rest in
-    let all = inner_quarters_at c.args.self rest.result rest.ensures.split (sym c.in-true-false.ensures.value) (sym c.in-true-false.ensures'.value) c.with_digits-lead.ensures.digits in
+    let all = inner_quarters_at c.args.self.now rest.result rest.ensures.split (sym c.in-true-false.ensures.value) (sym c.in-true-false.ensures'.value) c.with_digits-lead.ensures.digits in
     let low = c.from_first-in-true-false in
     let high = c.to_last in
     record { rows = followed c.args.rows.now.items (edge_words low.result) (edge_words high.result) c.write-in-true-false.ensures.rows c.write-in-true-false-2.ensures.rows (all ∙ ap₂ (λ (l h : List RowWords). l ++ h) (sym low.ensures.words) (sym high.ensures.words)) }
@@ -53,7 +53,7 @@ returns-in-true-false t c =
 pub write-requires-in-true-true : goal.write-requires-in-true-true
 write-requires-in-true-true t c =
     let s = c.behind_first_digits-rest.ensures.split in
-    let all = third_quarter_at c.args.self c.behind_first_digits-rest.result s c.inserted-lead.result c.with_digit.result c.if-ends-eq0.false (below_top _ _ c.reaches_highest.ensures.value c.if-reaches_highest.false)
+    let all = third_quarter_at c.args.self.now c.behind_first_digits-rest.result s c.inserted-lead.result c.with_digit.result c.if-ends-eq0.false (below_top _ _ c.reaches_highest.ensures.value c.if-reaches_highest.false)
     (sym c.in-true-true.ensures.value) (sym c.in-true-true.ensures'.value) c.with_digit.ensures.extended c.inserted-lead.ensures.inserted in
     let k = ap length all in
     let p = s.places in
@@ -64,7 +64,7 @@ write-requires-in-true-true t c =
 pub returns-in-true-true : goal.returns-in-true-true
 returns-in-true-true t c =
     let s = c.behind_first_digits-rest.ensures.split in
-    let all = third_quarter_at c.args.self c.behind_first_digits-rest.result s c.inserted-lead.result c.with_digit.result c.if-ends-eq0.false (below_top _ _ c.reaches_highest.ensures.value c.if-reaches_highest.false)
+    let all = third_quarter_at c.args.self.now c.behind_first_digits-rest.result s c.inserted-lead.result c.with_digit.result c.if-ends-eq0.false (below_top _ _ c.reaches_highest.ensures.value c.if-reaches_highest.false)
     (sym c.in-true-true.ensures.value) (sym c.in-true-true.ensures'.value) c.with_digit.ensures.extended c.inserted-lead.ensures.inserted in
     record { rows = followed c.args.rows.now.items (c.with_digit.result.words ∷ []) _ c.push-in-true-true.ensures.items c.write-in-true-true.ensures.rows all }
 
@@ -74,7 +74,7 @@ write-requires-in-false-false t c =
     let s = c.behind_first_digits-rest.ensures.split in
     let row = c.with_digit-in-false-false in
     let inner = c.inserted-lead-in-false-false in
-    let all = second_quarter_at c.args.self c.behind_first_digits-rest.result s inner.result row.result c.if-ends-eq0.false (below_top _ _ c.reaches_highest.ensures.value c.if-reaches_highest.false)
+    let all = second_quarter_at c.args.self.now c.behind_first_digits-rest.result s inner.result row.result c.if-ends-eq0.false (below_top _ _ c.reaches_highest.ensures.value c.if-reaches_highest.false)
     (sym c.in-false-false.ensures.value) (sym c.in-false-false.ensures'.value) row.ensures.extended inner.ensures.inserted in
     let k = ap length all in
     let p = s.places in
@@ -87,7 +87,7 @@ returns-in-false-false t c =
     let s = c.behind_first_digits-rest.ensures.split in
     let row = c.with_digit-in-false-false in
     let inner = c.inserted-lead-in-false-false in
-    let all = second_quarter_at c.args.self c.behind_first_digits-rest.result s inner.result row.result c.if-ends-eq0.false (below_top _ _ c.reaches_highest.ensures.value c.if-reaches_highest.false)
+    let all = second_quarter_at c.args.self.now c.behind_first_digits-rest.result s inner.result row.result c.if-ends-eq0.false (below_top _ _ c.reaches_highest.ensures.value c.if-reaches_highest.false)
     (sym c.in-false-false.ensures.value) (sym c.in-false-false.ensures'.value) row.ensures.extended inner.ensures.inserted in
     record { rows = followed c.args.rows.now.items (row.result.words ∷ []) _ c.push-in-false-false.ensures.items c.write-in-false-false.ensures.rows all }
 
@@ -97,7 +97,7 @@ write-requires-in-false-true-2 t c =
     let s = c.behind_first_digits-rest.ensures.split in
     let row = c.with_digit-in-false-true-2 in
     let inner = c.widened-lead in
-    let all = ends_overlap_at c.args.self c.behind_first_digits-rest.result s inner.result row.result c.if-ends-eq0.false (below_top _ _ c.reaches_highest.ensures.value c.if-reaches_highest.false)
+    let all = ends_overlap_at c.args.self.now c.behind_first_digits-rest.result s inner.result row.result c.if-ends-eq0.false (below_top _ _ c.reaches_highest.ensures.value c.if-reaches_highest.false)
     (sym c.in-false-true.ensures.value) (sym c.in-false-true.ensures'.value) c.if-rest.false row.ensures.extended inner.ensures.widened in
     let k = ap length all in
     let p = s.places in
@@ -110,6 +110,6 @@ returns-in-false-true-2 t c =
     let s = c.behind_first_digits-rest.ensures.split in
     let row = c.with_digit-in-false-true-2 in
     let inner = c.widened-lead in
-    let all = ends_overlap_at c.args.self c.behind_first_digits-rest.result s inner.result row.result c.if-ends-eq0.false (below_top _ _ c.reaches_highest.ensures.value c.if-reaches_highest.false)
+    let all = ends_overlap_at c.args.self.now c.behind_first_digits-rest.result s inner.result row.result c.if-ends-eq0.false (below_top _ _ c.reaches_highest.ensures.value c.if-reaches_highest.false)
     (sym c.in-false-true.ensures.value) (sym c.in-false-true.ensures'.value) c.if-rest.false row.ensures.extended inner.ensures.widened in
     record { rows = followed c.args.rows.now.items (row.result.words ∷ []) _ c.push-in-false-true-2.ensures.items c.write-in-false-true-2.ensures.rows all }

@@ -1,4 +1,4 @@
 use Rattle.ranges.proofs.across.Across.+write.Given as goal
 
 abbrev pub decreases-write : goal.decreases-write
-decreases-write l = l.self.ends.places
+decreases-write l = l.self.now.ends.places
