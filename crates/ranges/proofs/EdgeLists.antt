@@ -61,26 +61,8 @@ below_step_0 front rest e m c d x =
 abbrev pub left_rows : RowWords → Bool → ℕ → ℕ → List RowWords
 left_rows front e p c = map (behind_words front) (turned e (below (digits p c)))
 
--- one place on
-pub left_at_one : (front here rest : RowWords) (e : Bool) (p c : ℕ) → 0 < p → digit (p - 1) c ≡ true → WithDigit front here (p - 1) e → WithDigit front rest (p - 1) (not e) →
-    left_rows front e p c ≡ here ∷ left_rows rest e (p - 1) c
-left_at_one front here rest e p c h d x y =
-    let s : suc (p - 1) ≡ p = omega arith in
-    ap (λ k. left_rows front e k c) (sym s) ∙ below_step_1 front here rest e (p - 1) c d x y
-
-pub left_at_zero : (front rest : RowWords) (e : Bool) (p c : ℕ) → 0 < p → digit (p - 1) c ≡ false → WithDigit front rest (p - 1) e →
-    left_rows front e p c ≡ left_rows rest e (p - 1) c
-left_at_zero front rest e p c h d x =
-    let s : suc (p - 1) ≡ p = omega arith in
-    ap (λ k. left_rows front e k c) (sym s) ∙ below_step_0 front rest e (p - 1) c d x
-
 abbrev pub extend : RowWords → ℕ → Bool → RowWords
 extend front m d = record { value = front.value + cond d (2 ^ m) 0; care = front.care + 2 ^ m }
-
-pub some_left : (front : RowWords) (e : Bool) (p c : ℕ) → 0 < p → digit (p - 1) c ≡ true → 0 < length (left_rows front e p c)
-some_left front e p c h d =
-    let k = ap length (left_at_one front (extend front (p - 1) e) (extend front (p - 1) (not e)) e p c h d (record { value = refl; care = refl }) (record { value = refl; care = refl })) in
-    omega arith
 
 pub none_left : (front : RowWords) (e : Bool) (c : ℕ) → left_rows front e 0 c ≡ []
 none_left front true c = refl

@@ -1,7 +1,6 @@
 -- The rules' list of a range from 0, one place at a time.
-use Rattle.std.proofs.Common.{◌≡◌, ℕ, zero, suc, ◌+◌, ◌-◌, ◌*◌, ◌/◌, ◌^◌, ◌<◌, ◌≤◌, Bool, true, false, cond, ◌∷◌, map, length, sym, refl, ap, ◌∙◌, ap₂, arith, add-mul, le_refl, pow_mono, pow_pos, zero-mul, Ok, Err}
-use Rattle.std.proofs.Math.Nat.{pow-succ', mul_assoc, div-eq_of_lt}
-use Rattle.covers.proofs.Turned.{digit_head}
+use Rattle.std.proofs.Common.{◌≡◌, ℕ, zero, suc, ◌+◌, ◌-◌, ◌*◌, ◌/◌, ◌^◌, ◌<◌, ◌≤◌, Bool, true, false, cond, ◌∷◌, map, length, sym, refl, ap, ◌∙◌, arith, le_refl, pow_mono, pow_pos, zero-mul, Ok, Err}
+use Rattle.std.proofs.Math.Nat.{div-eq_of_lt}
 use Rattle.std.proofs.lemmas.Bool.{lt-ltb, le-leb, ne_eqb}
 use Rattle.std.specs.Prelude.{nat_le}
 use Rattle.rows.specs.declared.refusal.Refusal.TheVariants.{MemoryTooShort}
@@ -16,22 +15,12 @@ use Rattle.rows.specs.Memory.{words_of}
 use Rattle.ranges.specs.Building.{WithDigit}
 use Rattle.ranges.specs.FromZero.{one_places, row_for_one, rows_below, RowsFromZero}
 use Rattle.ranges.proofs.EdgeLists.{left_rows, below_step_1, below_step_0}
+use Rattle.ranges.proofs.EdgeSteps.{one_more}
 use Rattle.ranges.proofs.RunLists.{words_behind}
 
 -- the digits of c before the last m places
 abbrev before : ℕ → ℕ → ℕ → RowWords
 before n c m = record { value = c / 2 ^ m * 2 ^ m; care = 2 ^ n - 2 ^ m }
-
--- one digit more
-one_more : (m c : ℕ) → c / 2 ^ m * 2 ^ m ≡ c / 2 ^ suc m * 2 ^ suc m + cond (digit m c) (2 ^ m) 0
-one_more m c =
-    let q = c / 2 ^ suc m in
-    ap (λ k. k * 2 ^ m) (digit_head m c) ∙ add-mul (q * 2) (cond (digit m c) 1 0) (2 ^ m) ∙
-    ap₂ (λ j k. j + k) (mul_assoc q 2 (2 ^ m) ∙ ap (λ k. q * k) (sym (pow-succ' 2 m))) (times (digit m c))
-  where
-    times : (d : Bool) → cond d 1 0 * 2 ^ m ≡ cond d (2 ^ m) 0
-    times true = omega arith
-    times false = omega arith
 
 -- the rows for the ones of c among the last p places
 rows_left : (n c p : ℕ) → p ≤ n → left_rows (before n c p) false p c ≡ map (row_for_one n c) (one_places p c)

@@ -3,6 +3,7 @@ pub mod Adding
 pub mod SplitEnds
 pub mod Fronts
 pub mod EdgeLists
+pub mod EdgeSteps
 pub mod AcrossLists
 pub mod RunLists
 pub mod BesideLists

@@ -1,9 +1,9 @@
 // The rows of the lowest or the highest numbers behind a front.
-ghost use Rattle.std.specs.Prelude.{◌^◌, ◌<◌, ◌≤◌};
+ghost use Rattle.std.specs.Prelude.{◌≡◌, ◌+◌, ◌-◌, ◌^◌, ◌<◌, ◌≤◌, cond};
 
 use super::front::Front;
 use super::lists::RowList;
-use rows::digit::has_one;
+use rows::row_words::RowWords;
 
 // The `count` lowest numbers of the front's free places or, exchanged, the highest.
 #[derive(Clone, Copy)]
@@ -31,25 +31,39 @@ impl Edge {
         }
     }
 
-    // Adds a row for each 1 in the count, first place to last: the digits before it, then 0, then dashes. So the list
-    // is full once it has as many rows as the count has ones.
+    // Adds a row for each 1 in the count, first place to last. So the list is full once it has as many rows as the count
+    // has ones.
     fn write_below(self, rows: &mut RowList)
         requires not_all { self.count < 2 ^ self.front.places }
         requires room { HasRoom rows.old (edge_words self) }
         ensures rows { Extends rows.old (edge_words self) rows.new }
     {
         let full = rows.len() + self.count.count_ones() as usize;
-        let mut front = self.front;
-        for place in (0..self.front.places).rev() {
-            if rows.len() == full {
-                return;
-            }
-            if has_one(self.count, place) {
-                rows.push(front.with_digit(self.exchanged).words);
-                front = front.with_digit(!self.exchanged);
-            } else {
-                front = front.with_digit(self.exchanged);
-            }
+        let mut left = self.count;
+        while rows.len() < full {
+            let bit = 1u64 << (63 - left.leading_zeros());
+            rows.push(self.row_for_one(self.count - left, bit));
+            left -= bit;
+        }
+    }
+
+    // The row for a 1 of the count, which counts `bit`: the digits before it, which count `before`, then 0, then dashes.
+    fn row_for_one(self, before: u64, bit: u64) -> RowWords
+        requires some { 1 ≤ bit }
+        requires within { before + bit ≤ 2 ^ self.front.places }
+        ensures value { result.value ≡ self.front.words.value
+            + cond self.exchanged (2 ^ self.front.places - bit - before) before }
+        ensures care { result.care ≡ self.front.words.care + (2 ^ self.front.places - bit) }
+    {
+        let care = (1u64 << self.front.places) - bit;
+        let value = if self.exchanged {
+            care - before
+        } else {
+            before
+        };
+        RowWords {
+            value: self.front.words.value + value as u32,
+            care: self.front.words.care + care as u32,
         }
     }
 }

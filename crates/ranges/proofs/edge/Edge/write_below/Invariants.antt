@@ -1,11 +1,10 @@
-use Rattle.std.proofs.Common.{◌≡◌, ◌+◌, ◌++◌, length}
-use Rattle.ranges.proofs.EdgeLists.{left_rows}
+use Rattle.std.proofs.Common.{◌++◌}
+use Rattle.ranges.specs.Building.{edge_words}
+use Rattle.ranges.proofs.EdgeSteps.{Going}
 use Rattle.ranges.proofs.edge.Edge.write_below.Given as goal
 
--- what is there and what is left are the whole list, which is as long as is known
-abbrev pub invariant-loop-place : goal.invariant-loop-place
-invariant-loop-place l = record {
-  list : l.rows.items ++ left_rows l.front.words l.self.exchanged l.place l.self.count ≡ l.initial.rows.items ++ left_rows l.initial.front.words l.self.exchanged l.self.front.places l.self.count;
-  full : length l.rows.items + length (left_rows l.front.words l.self.exchanged l.place l.self.count) ≡ l.full;
-  places : l.front.places ≡ l.place;
-}
+abbrev pub invariant-loop-self : goal.invariant-loop-self
+invariant-loop-self l = Going l.self l.left l.rows.items (l.initial.rows.items ++ edge_words l.self)
+
+abbrev pub decreases-loop-self : goal.decreases-loop-self
+decreases-loop-self l = l.left
