@@ -3,8 +3,8 @@ use Rattle.std.proofs.Common.{◌≡◌, ℕ, zero, suc, ◌+◌, ◌-◌, ◌%�
 use mathlib.Core.Bool.{beq}
 use Rattle.std.proofs.lemmas.Bool.{not-true, not-false, ltb-true, eq-eqb, ne_eqb}
 use Rattle.covers.specs.Digits.{digit}
-use Rattle.covers.specs.WitnessNumbers.{alike, under, turned, each_turned, one_turned, inner_numbers, parting_numbers, numbers_beside, number_before, number_after, numbers_of_range}
-use Rattle.covers.proofs.Turned.{each_turned_one, each_turned_other, inner_one, beside_parting, beside_shared, beside_one}
+use Rattle.covers.specs.WitnessNumbers.{alike, under, one_turned, inner_numbers, parting_numbers, numbers_beside, number_before, number_after, numbers_of_range}
+use Rattle.covers.proofs.Turned.{inner_one, beside_parting, beside_shared, beside_one}
 
 -- the test of two digits
 beq_alike : (x y : Bool) → beq x y ≡ alike x y
@@ -20,13 +20,6 @@ same_test x y r s t e f k = ap₂ alike (sym e) (sym f) ∙ sym (beq_alike r s) 
 module _ (p : ℕ) (some : 0 < p) where
   places : suc (p - 1) ≡ p
   places = omega arith
-
-  module _ (d r : Bool) (x : ℕ) (is : r ≡ digit (p - 1) x) where
-    pub each_at_one : beq r d ≡ true → each_turned d p x ≡ turned (p - 1) x ∷ each_turned d (p - 1) x
-    each_at_one k = ap (λ j. each_turned d j x) (sym places) ∙ each_turned_one d (p - 1) x (same_test (digit (p - 1) x) d r d true is refl k)
-
-    pub each_at_other : beq r d ≡ false → each_turned d p x ≡ each_turned d (p - 1) x
-    each_at_other k = ap (λ j. each_turned d j x) (sym places) ∙ each_turned_other d (p - 1) x (same_test (digit (p - 1) x) d r d false is refl k)
 
   module _ (b a : ℕ) (r s : Bool) (is : r ≡ digit (p - 1) b) (is' : s ≡ digit (p - 1) a) where
     pub beside_at_parting : (over : Bool) → not (beq r s) ≡ true → numbers_beside over p b a ≡ parting_numbers (p - 1) b a

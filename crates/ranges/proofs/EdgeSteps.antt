@@ -2,16 +2,16 @@
 use Rattle.std.proofs.Common.{◌≡◌, ℕ, zero, suc, ◌+◌, ◌-◌, ◌*◌, ◌/◌, ◌%◌, ◌^◌, ◌<◌, ◌≤◌, Bool, true, false, cond, not, List, [], ◌∷◌, ◌++◌, length, sym, ap, ◌∙◌, ap₂, inl, inr, arith, add-mul, mod-lt, mod-eq_of_lt, pow_mono, pow_pos, pow-add, length-append}
 use lib.Arith.{digits_lt}
 use Rattle.std.proofs.Math.Nat.{pow-succ', mul_assoc, mod-le}
-use Rattle.std.proofs.lemmas.Nat.{shr_split, shr_below, leading_top, one_shl}
+use Rattle.std.proofs.lemmas.Nat.{shr_split, shr_below}
 use Rattle.std.proofs.lemmas.Bool.{cases_lt}
 use Rattle.std.proofs.lemmas.List.{append-nil, nil_from_length}
-use Rattle.std.specs.Int.Count.{count_leading_zeros}
 use Rattle.covers.specs.Digits.{digit}
 use Rattle.covers.proofs.Turned.{digit_head, digit_0, digit_1, low_low}
 use Rattle.rows.specs.declared.row_words.RowWords.{RowWords}
 use Rattle.ranges.specs.declared.edge.Edge.{Edge}
 use Rattle.ranges.specs.Building.{edge_words, WithDigit}
 use Rattle.ranges.proofs.Adding.{moved}
+use Rattle.ranges.proofs.FirstOne.{FirstOne, top_bit, top_place, first_one}
 use Rattle.ranges.proofs.Fronts.{same_words}
 use Rattle.ranges.proofs.EdgeLists.{left_rows, below_step_1, below_step_0, none_left, edge_left}
 
@@ -178,48 +178,27 @@ module _ (edge : Edge) (fits : edge.count < 2 ^ edge.front.places) where
 
     -- the first 1 of those that are left
     module _ (some : 0 < left) where
-      abbrev pub bit : ℕ
-      bit = (1 * 2 ^ (63 - count_leading_zeros 64 left)) % 2 ^ 64
-
-      short : left < 2 ^ 64
-      short =
+      pub first : FirstOne left
+      first =
           let b = left_within in
           let p = pow_mono {i = edge.front.places} {j = 64} (let k = edge.front.places_within in omega arith) in
-          omega arith
+          first_one left some (omega arith)
 
-      pub record First : Type 0 where
-        pub place : ℕ
-        pub counted : count_leading_zeros 64 left + suc place ≡ 64
-        pub is : bit ≡ 2 ^ place
-        pub from : 2 ^ place ≤ left
-        pub to : left < 2 ^ suc place
+      pub row_fits : edge.count - left + top_bit left ≤ 2 ^ edge.front.places
+      row_fits = let f = first in rw f.is (before_and_one w edge.front.places edge.count fits going.places (top_place left) left going.within going.behind f.from f.to)
 
-      pub first : First
-      first =
-          let t = leading_top 64 left some short in
-          let e : 63 - count_leading_zeros 64 left ≡ t.0 = omega arith in
-          record {
-            place = t.0;
-            counted = t.1;
-            is = one_shl (63 - count_leading_zeros 64 left) 64 (omega arith) ∙ ap (λ k. 2 ^ k) e;
-            from = t.2;
-            to = t.3;
-          }
-
-      pub row_fits : edge.count - left + bit ≤ 2 ^ edge.front.places
-      row_fits = let f = first in rw f.is (before_and_one w edge.front.places edge.count fits going.places f.place left going.within going.behind f.from f.to)
-
-      pub next : {row : RowWords} {new : List RowWords} → row.value ≡ w.value + cond edge.exchanged (2 ^ edge.front.places - bit - (edge.count - left)) (edge.count - left) →
-          row.care ≡ w.care + (2 ^ edge.front.places - bit) → new ≡ done ++ row ∷ [] → Going edge (left - bit) new all
+      pub next : {row : RowWords} {new : List RowWords} → row.value ≡ w.value + cond edge.exchanged (2 ^ edge.front.places - top_bit left - (edge.count - left)) (edge.count - left) →
+          row.care ≡ w.care + (2 ^ edge.front.places - top_bit left) → new ≡ done ++ row ∷ [] → Going edge (left - top_bit left) new all
       next {row} {new} v k e =
           let f = first in
-          let p = place w edge.front.places edge.count fits going.places f.place left going.within going.behind f.from f.to in
+          let q = top_place left in
+          let p = place w edge.front.places edge.count fits going.places q left going.within going.behind f.from f.to in
           record {
-            places = f.place;
+            places = q;
             within = let h = going.within in omega arith;
-            behind = ap (λ b. left - b) f.is ∙ left_behind w edge.front.places edge.count fits going.places f.place left going.within going.behind f.from f.to;
+            behind = ap (λ b. left - b) f.is ∙ left_behind w edge.front.places edge.count fits going.places q left going.within going.behind f.from f.to;
             list =
                 moved done (row ∷ []) _ e
-                (next_row w edge.front.places edge.count fits going.places f.place left going.within going.behind f.from f.to edge.exchanged row (v ∙ ap (λ b. w.value + cond edge.exchanged (2 ^ edge.front.places - b - (edge.count - left)) (edge.count - left)) f.is) (k ∙ ap (λ b. w.care + (2 ^ edge.front.places - b)) f.is)) ∙
+                (next_row w edge.front.places edge.count fits going.places q left going.within going.behind f.from f.to edge.exchanged row (v ∙ ap (λ b. w.value + cond edge.exchanged (2 ^ edge.front.places - b - (edge.count - left)) (edge.count - left)) f.is) (k ∙ ap (λ b. w.care + (2 ^ edge.front.places - b)) f.is)) ∙
                 going.list;
           }

@@ -1,5 +1,6 @@
 pub mod Handing
 pub mod Adding
+pub mod FirstOne
 pub mod SplitEnds
 pub mod Fronts
 pub mod EdgeLists
@@ -7,6 +8,7 @@ pub mod EdgeSteps
 pub mod AcrossLists
 pub mod RunLists
 pub mod BesideLists
+pub mod TurnedSteps
 pub mod FromZero
 pub mod SeveralLists
 pub mod RowsWithin

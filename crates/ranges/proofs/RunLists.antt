@@ -5,7 +5,7 @@ use lib.Arith.{digits_lt}
 use lib.Bits.{bit_and, bit_xor, xor_shr, xor_self, xor_assoc, xor_zero_l, xor_zero_r, xor_lt}
 use Rattle.std.proofs.lemmas.Nat.{shr_split, shr_below, div_below, le-div, xor_mod}
 use Rattle.std.proofs.lemmas.List.{length-map, take_at}
-use Rattle.std.proofs.lemmas.Bool.{and_parts, cases_lt, le-leb, lt-ltb, ltb-true}
+use Rattle.std.proofs.lemmas.Bool.{and_parts, cases_lt, le-leb, lt-leb, lt-ltb, ltb-true}
 use Rattle.covers.specs.declared.symbol.Symbol.TheVariants.{Zero, One, Dash}
 use Rattle.covers.specs.Digits.{digit}
 use Rattle.covers.specs.RuleEquations.{plain}
@@ -244,6 +244,13 @@ module _ (stretch : Stretch) (rest : Ends) (s : Split stretch.ends rest) where
       same_ends (first_one s d) (last_zero s e) ∙
       ap (map (behind_front stretch.front)) (equations_hold.round_across rest.places rest.first rest.last rest.first_within rest.last_within) ∙
       swapped_list stretch.front lead rest.places front_places x (across_rows rest.places rest.first rest.last) (straight_rows_long (suc rest.places) rest.first (2 ^ rest.places + rest.last))
+
+-- a stretch that is straight, and one that goes round
+pub stretch_straight : (stretch : Stretch) → stretch.ends.first ≤ stretch.ends.last → stretch_words stretch ≡ straight_words stretch
+stretch_straight stretch h = rw (le-leb stretch.ends.first stretch.ends.last h) refl
+
+pub stretch_round : (stretch : Stretch) → stretch.ends.last < stretch.ends.first → stretch_words stretch ≡ round_words stretch
+stretch_round stretch h = rw (lt-leb stretch.ends.first stretch.ends.last h) refl
 
 -- the words of rows with nothing before them
 pub words_behind : (front : RowWords) → front.value ≡ 0 → front.care ≡ 0 → (rows : List Symbols) → map (behind_words front) rows ≡ map words_of rows

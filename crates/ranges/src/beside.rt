@@ -26,7 +26,7 @@ impl Beside {
         ensures numbers { Extends numbers.old (numbers_beside (nat_le self.after self.before) self.places self.before self.after) numbers.new }
     {
         for places in (0..self.places).rev() {
-            let rest = Beside {
+            let mut rest = Beside {
                 before: self.before,
                 after: self.after,
                 places,
@@ -42,9 +42,9 @@ impl Beside {
 
     // Where the digits before the last places differ: adds the number before with this digit turned, if by the last
     // places it is lower, and the numbers of these places.
-    fn write_parting(self, numbers: &mut NumberList)
-        requires room { HasRoom numbers.old (parting_numbers self.places self.before self.after) }
-        ensures numbers { Extends numbers.old (parting_numbers self.places self.before self.after) numbers.new }
+    fn write_parting(&mut self, numbers: &mut NumberList)
+        requires room { HasRoom numbers.old (parting_numbers self.old.places self.old.before self.old.after) }
+        ensures numbers { Extends numbers.old (parting_numbers self.old.places self.old.before self.old.after) numbers.new }
     {
         if self.is_under() {
             numbers.push(with_digit_turned(self.before, self.places));
@@ -53,23 +53,23 @@ impl Beside {
     }
 
     // Adds one number for each of the last places as long as by these the number before is lower; then the number
-    // before turned at each 0 and the number after turned at each 1.
-    fn write_inner(self, numbers: &mut NumberList)
-        requires room { HasRoom numbers.old (inner_numbers self.places self.before self.after) }
-        ensures numbers { Extends numbers.old (inner_numbers self.places self.before self.after) numbers.new }
+    // before turned at each 0 and the number after turned at each 1. What is left behind a place stands here in its place.
+    fn write_inner(&mut self, numbers: &mut NumberList)
+        requires room { HasRoom numbers.old (inner_numbers self.old.places self.old.before self.old.after) }
+        ensures numbers { Extends numbers.old (inner_numbers self.old.places self.old.before self.old.after) numbers.new }
     {
         if !self.is_under() {
             write_each_turned(self.before, self.places, false, numbers);
             write_each_turned(self.after, self.places, true, numbers);
             return;
         }
-        let rest = Beside {
+        *self = Beside {
             before: self.before,
             after: self.after,
             places: self.places - 1,
         };
-        numbers.push(rest.with_one_turned());
-        rest.write_inner(numbers);
+        numbers.push(self.with_one_turned());
+        self.write_inner(numbers);
     }
 
     // Whether by the last places the number before is lower.

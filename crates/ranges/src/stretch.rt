@@ -1,5 +1,5 @@
 // The rows of a run.
-ghost use Rattle.std.specs.Prelude.{◌≡◌, ◌<◌, ◌≤◌};
+ghost use Rattle.std.specs.Prelude.{◌≡◌, ◌<◌, ◌≤◌, ◌++◌};
 
 use super::across::Across;
 use super::ends::Ends;
@@ -19,7 +19,7 @@ pub struct Stretch {
 
 impl Stretch {
     ghost use Rattle.arrayvec.specs.ArrayVec.{Extends};
-    ghost use Rattle.ranges.specs.Building.{HasRoom, Alone, Parted, stretch_words, straight_words, round_words};
+    ghost use Rattle.ranges.specs.Building.{HasRoom, Alone, Parted, across_words, stretch_words, straight_words, round_words};
 
     // The numbers with nothing before them.
     pub(super) fn of(ends: Ends) -> Stretch
@@ -36,28 +36,18 @@ impl Stretch {
         requires room { HasRoom rows.old (stretch_words self.old) }
         ensures rows { Extends rows.old (stretch_words self.old) rows.new }
     {
-        if self.ends.first <= self.ends.last {
-            self.write_straight(rows);
-        } else {
-            self.write_round(rows);
-        }
-    }
-
-    // Adds the rows of first to last.
-    fn write_straight(self, rows: &mut RowList)
-        requires ordered { self.ends.first ≤ self.ends.last }
-        requires room { HasRoom rows.old (straight_words self) }
-        ensures rows { Extends rows.old (straight_words self) rows.new }
-    {
-        let Stretch { front, ends } = self.behind_shared_digits();
-        if ends.places == 0 {
-            rows.push(front.words);
-        } else {
+        let mut across = if self.ends.first <= self.ends.last {
+            let Stretch { front, ends } = self.behind_shared_digits();
+            if ends.places == 0 {
+                return rows.push(front.words);
+            }
             let lead = Lead::behind(front, false);
             let ends = ends.behind_first_digits();
-            let mut across = Across { lead, ends };
-            across.write(rows);
-        }
+            Across { lead, ends }
+        } else {
+            self.write_round(rows)
+        };
+        across.write(rows);
     }
 
     // The shorter stretch behind the digits that both ends share, which go before each of its rows.
@@ -78,11 +68,12 @@ impl Stretch {
         Stretch { front, ends: rest }
     }
 
-    // Adds the rows of first to the highest number and of 0 to last. What is left behind a digit stands here in its place.
-    fn write_round(&mut self, rows: &mut RowList)
+    // Of the rows of first to the highest number and of 0 to last, adds those of the halves that are whole, and answers
+    // what is left. What is left behind a digit stands here in its place.
+    fn write_round(&mut self, rows: &mut RowList) -> Across
         requires round { self.old.ends.last < self.old.ends.first }
         requires room { HasRoom rows.old (round_words self.old) }
-        ensures rows { Extends rows.old (round_words self.old) rows.new }
+        ensures rows { rows.new.items ++ across_words result ≡ rows.old.items ++ round_words self.old }
     {
         let Stretch { front, ends } = *self;
         let rest = ends.behind_first_digits();
@@ -93,20 +84,18 @@ impl Stretch {
                 rows.push(front.with_digit(true).words);
                 let front = front.with_digit(false);
                 *self = Stretch { front, ends: rest };
-                self.write_round(rows);
+                return self.write_round(rows);
             }
             (true, true) => {
                 // both ends begin with 1: all that begin with 0 are in
                 rows.push(front.with_digit(false).words);
                 let front = front.with_digit(true);
                 *self = Stretch { front, ends: rest };
-                self.write_round(rows);
+                return self.write_round(rows);
             }
-            (true, false) => {
-                let lead = Lead::behind(front, true);
-                let mut across = Across { lead, ends: rest };
-                across.write(rows);
-            }
+            (true, false) => {}
         }
+        let lead = Lead::behind(front, true);
+        Across { lead, ends: rest }
     }
 }

@@ -5,7 +5,6 @@ ghost use Rattle.ranges.specs.Building.{HasRoom};
 ghost use Rattle.covers.specs.WitnessNumbers.{turned, each_turned};
 
 use super::lists::NumberList;
-use rows::digit::has_one;
 
 // The number with the other digit at the place.
 pub(super) fn with_digit_turned(number: u64, place: u32) -> u64
@@ -15,15 +14,22 @@ pub(super) fn with_digit_turned(number: u64, place: u32) -> u64
     number ^ (1u64 << place)
 }
 
-// Adds the number turned at each of the last places where it has a 1, or has none.
+// Adds the number turned at each of the last places where it has a 1, or has none. It goes from one such place to the
+// next, by the ones of a number that has a 1 at each of them.
 pub(super) fn write_each_turned(number: u64, places: u32, one: bool, numbers: &mut NumberList)
-    requires places_within { places ≤ 64 }
+    requires places_within { places < 64 }
     requires room { HasRoom numbers.old (each_turned one places number) }
     ensures numbers { Extends numbers.old (each_turned one places number) numbers.new }
 {
-    for place in (0..places).rev() {
-        if has_one(number, place) == one {
-            numbers.push(with_digit_turned(number, place));
-        }
+    let limit = 1u64 << places;
+    let mut left = if one {
+        number % limit
+    } else {
+        limit - 1 - number % limit
+    };
+    while left > 0 {
+        let place = 63 - left.leading_zeros();
+        numbers.push(with_digit_turned(number, place));
+        left -= 1u64 << place;
     }
 }

@@ -6,6 +6,7 @@ use Rattle.ranges.specs.declared.edge.Edge.{Edge}
 use Rattle.ranges.specs.Building.{edge_words}
 use Rattle.ranges.proofs.EdgeLists.{edge_count}
 use Rattle.ranges.proofs.EdgeSteps.{Going, begun, some_left, all_done, left_within, first, row_fits, next}
+use Rattle.ranges.proofs.FirstOne.{top_place}
 use Rattle.ranges.proofs.edge.Edge.write_below.Goals as goal
 
 pub loop-self-init : goal.loop-self-init
@@ -46,7 +47,7 @@ loop-self-smaller c =
     let f = first c.args.self c.requires.not_all c.loop-self.invariant (some c.args.self c.requires.not_all c.args.rows.now c.loop-self.rows c.loop-self.invariant c.len.result c.len-in-loop-self.result c.len.ensures.value c.len-in-loop-self.ensures.value c.loop-self-test.true) in
     let is = f.is in
     let from = f.from in
-    let one = pow_pos f.place in
+    let one = pow_pos (top_place c.loop-self.left) in
     omega arith
 
 pub loop-self-preserved : goal.loop-self-preserved
