@@ -11,18 +11,18 @@ pub one_answered : (stage : Stage) (line output : List ℕ) (next : Stage) → L
 one_answered stage line output next a = (output, next, [], a, (refl, refl), sym (append-nil output))
 
 -- one byte: a newline closes the line, any other byte stands at its end
-module _ {D : Type 0} (d : Ghosts D) (after : Session D d) (stage : Stage) (line output : List ℕ) (byte : ℕ) where
+module _ {D : Type 0} (d : Ghosts D) (after : Session D) (stage : Stage) (line output : List ℕ) (byte : ℕ) where
   abbrev Lines : Bool → List (List ℕ)
   Lines v = cond v (line ∷ []) []
 
   abbrev Open : Bool → List ℕ
   Open v = cond v [] (line ++ byte ∷ [])
 
-  pub newline_taken : eqb byte 10 ≡ true → LineClosed stage line output after.stage → buffered after.line ≡ kept [] → BytesTaken stage line (byte ∷ []) output after
+  pub newline_taken : eqb byte 10 ≡ true → LineClosed d stage line output after.stage → buffered after.line ≡ kept [] → BytesTaken d stage line (byte ∷ []) output after
   newline_taken is c e = record {
     next = c.next;
     answered = subst (λ v. LinesAnswered stage (Lines v) output c.next) (sym is) (one_answered stage line output c.next c.answered);
-    stands = subst (λ v. SessionStands after c.next (Open v)) (sym is) (record { at_stage = c.stands; open_line = e });
+    stands = subst (λ v. SessionStands d after c.next (Open v)) (sym is) (record { at_stage = c.stands; open_line = e });
   }
 
 -- the input's end
@@ -65,11 +65,11 @@ answered_parted (line ∷ lines) more a c output p =
     (q.0, p.0 ++ q.1, q.2, (p.0, p.1, q.1, p.3, q.3, refl), q.4, p.5 ∙ ap (λ t. p.0 ++ t) q.5 ∙ sym (append_assoc p.0 q.1 q.2))
 
 -- bytes taken after bytes taken
-pub taken_join : {D : Type 0} (d : Ghosts D) (between after : Session D d) (stage : Stage) (line xs ys output rest : List ℕ) → (p : BytesTaken stage line xs output between) →
-    BytesTaken p.next (left_open line xs) ys rest after → BytesTaken stage line (xs ++ ys) (output ++ rest) after
+pub taken_join : {D : Type 0} (d : Ghosts D) (between after : Session D) (stage : Stage) (line xs ys output rest : List ℕ) → (p : BytesTaken d stage line xs output between) →
+    BytesTaken d p.next (left_open line xs) ys rest after → BytesTaken d stage line (xs ++ ys) (output ++ rest) after
 taken_join d between after stage line xs ys output rest p q = record {
   next = q.next;
   answered = subst (λ l. LinesAnswered stage l (output ++ rest) q.next) (sym (closed_join line xs ys))
       (answered_join (closed line xs) (closed (left_open line xs) ys) stage p.next q.next output rest p.answered q.answered);
-  stands = subst (SessionStands after q.next) (sym (left_join line xs ys)) q.stands;
+  stands = subst (SessionStands d after q.next) (sym (left_join line xs ys)) q.stands;
 }

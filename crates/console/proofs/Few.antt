@@ -11,7 +11,7 @@ use Rattle.console.specs.Sessions.{Stage, waiting, running, stopped, closing_lin
 use Rattle.console.specs.SessionStands.{StageStands}
 
 -- a row for each slot at most
-pub few_closing : {D : Type 0} (d : Ghosts D) (at : code.Stage D d) (stage : Stage) → StageStands at stage → length (closing_lines stage) ≤ 120
+pub few_closing : {D : Type 0} (d : Ghosts D) (at : code.Stage D) (stage : Stage) → StageStands d at stage → length (closing_lines stage) ≤ 120
 few_closing d Waiting waiting k = omega arith
 few_closing d Waiting (running b) k = absurd k
 few_closing d Waiting stopped k = absurd k

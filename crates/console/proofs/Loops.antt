@@ -26,25 +26,25 @@ on_ok (Ok t) x = x
 on_ok (Err e) x = tt
 
 -- a piece of the input
-module _ {D : Type 0} {dev : Ghosts D} (a : Option (List ℕ)) (stage : Stage) (line piece : List ℕ) where
-  abbrev pub TakenTo : Option (List ℕ) → ℕ → Session D dev → Type 0
-  TakenTo b i s = (written : List ℕ) × Appends a b written × BytesTaken stage line (take i piece) written s
+module _ {D : Type 0} (dev : Ghosts D) (a : Option (List ℕ)) (stage : Stage) (line piece : List ℕ) where
+  abbrev pub TakenTo : Option (List ℕ) → ℕ → Session D → Type 0
+  TakenTo b i s = (written : List ℕ) × Appends a b written × BytesTaken dev stage line (take i piece) written s
 
-  pub piece_begun : (s : Session D dev) → SessionStands s stage line → TakenTo a 0 s
+  pub piece_begun : (s : Session D) → SessionStands dev s stage line → TakenTo a 0 s
   piece_begun s k = ([], appends_none a, record { next = stage; answered = (refl, refl); stands = k })
 
-  module _ (b c : Option (List ℕ)) (i : ℕ) (s after : Session D dev) (output : List ℕ) (before : TakenTo b i s) (within : i < length piece)
-      (step : (at : Stage) (held : List ℕ) → SessionStands s at held → BytesTaken at held (get_or piece i 0 ∷ []) output after) where
-    one_more : BytesTaken stage line (take (i + 1) piece) (before.0 ++ output) after
+  module _ (b c : Option (List ℕ)) (i : ℕ) (s after : Session D) (output : List ℕ) (before : TakenTo b i s) (within : i < length piece)
+      (step : (at : Stage) (held : List ℕ) → SessionStands dev s at held → BytesTaken dev at held (get_or piece i 0 ∷ []) output after) where
+    one_more : BytesTaken dev stage line (take (i + 1) piece) (before.0 ++ output) after
     one_more =
         let t = before.2 in
-        subst (λ l. BytesTaken stage line l (before.0 ++ output) after) (sym (take_more piece i 0 within))
+        subst (λ l. BytesTaken dev stage line l (before.0 ++ output) after) (sym (take_more piece i 0 within))
         (taken_join dev s after stage line (take i piece) (get_or piece i 0 ∷ []) before.0 output t (step t.next (left_open line (take i piece)) t.stands))
 
     pub piece_more : Appends b c output → TakenTo c (i + 1) after
     piece_more w = (before.0 ++ output, appends_join a b c before.0 output before.1 w, one_more)
 
-    pub piece_failed : {T E : Type 0} (result : Result T E) (e : E) (k : ℕ) → result ≡ Err e → Appends b c (take k output) → PieceAnswered a c stage line piece result after
+    pub piece_failed : {T E : Type 0} (result : Result T E) (e : E) (k : ℕ) → result ≡ Err e → Appends b c (take k output) → PieceAnswered dev a c stage line piece result after
     piece_failed result e k is w = record {
       taken = take (i + 1) piece;
       untaken = drop (i + 1) piece;
@@ -52,12 +52,12 @@ module _ {D : Type 0} {dev : Ghosts D} (a : Option (List ℕ)) (stage : Stage) (
       unwritten = drop k output;
       parts = sym (take-append-drop (i + 1) piece);
       appended = appends_join a b c before.0 (take k output) before.1 w;
-      answered = subst (λ t. BytesTaken stage line (take (i + 1) piece) t after)
+      answered = subst (λ t. BytesTaken dev stage line (take (i + 1) piece) t after)
           (sym (append_assoc before.0 (take k output) (drop k output) ∙ ap (λ t. before.0 ++ t) (take-append-drop k output))) one_more;
       all = rw is tt;
     }
 
-  pub piece_all : {T E : Type 0} (b c : Option (List ℕ)) (i : ℕ) (s : Session D dev) (result : Result T E) → TakenTo b i s → length piece ≤ i → Keeps b c → PieceAnswered a c stage line piece result s
+  pub piece_all : {T E : Type 0} (b c : Option (List ℕ)) (i : ℕ) (s : Session D) (result : Result T E) → TakenTo b i s → length piece ≤ i → Keeps b c → PieceAnswered dev a c stage line piece result s
   piece_all b c i s result t h kept = record {
     taken = piece;
     untaken = [];
@@ -65,7 +65,7 @@ module _ {D : Type 0} {dev : Ghosts D} (a : Option (List ℕ)) (stage : Stage) (
     unwritten = [];
     parts = sym (append-nil piece);
     appended = appends_kept a b c t.0 t.1 kept;
-    answered = subst (λ l. BytesTaken stage line piece l s) (sym (append-nil t.0)) (subst (λ l. BytesTaken stage line l t.0 s) (take_all i piece h) t.2);
+    answered = subst (λ l. BytesTaken dev stage line piece l s) (sym (append-nil t.0)) (subst (λ l. BytesTaken dev stage line l t.0 s) (take_all i piece h) t.2);
     all = on_ok result (refl, refl);
   }
 
@@ -88,16 +88,16 @@ concat_more (x ∷ lines) zero (Some l) e = let same : x ≡ l.bytes = cc in app
 concat_more (x ∷ lines) (suc i) line e = ap (λ t. x ++ t) (concat_more lines i line e) ∙ sym (append_assoc x (concat (take i lines)) (printed line))
 
 -- the input has ended, and the closing lines before this one are written
-pub record ClosedTo {D : Type 0} {dev : Ghosts D} (a b : Option (List ℕ)) (stage : Stage) (line : List ℕ) (i : ℕ) (s : Session D dev) : Type 0 where
+pub record ClosedTo {D : Type 0} (dev : Ghosts D) (a b : Option (List ℕ)) (stage : Stage) (line : List ℕ) (i : ℕ) (s : Session D) : Type 0 where
   pub output : List ℕ
-  pub taken : EndTaken stage line output s
+  pub taken : EndTaken dev stage line output s
   pub appended : Appends a b (output ++ concat (take i (closing_lines taken.next)))
 
 module _ {D : Type 0} {dev : Ghosts D} (a : Option (List ℕ)) (stage : Stage) (line : List ℕ) where
-  pub closed_none : (b : Option (List ℕ)) (s : Session D dev) (output : List ℕ) → EndTaken stage line output s → Appends a b output → ClosedTo a b stage line 0 s
+  pub closed_none : (b : Option (List ℕ)) (s : Session D) (output : List ℕ) → EndTaken dev stage line output s → Appends a b output → ClosedTo dev a b stage line 0 s
   closed_none b s output t w = record { output = output; taken = t; appended = subst (Appends a b) (sym (append-nil output)) w }
 
-  pub end_failed : {T E : Type 0} (b : Option (List ℕ)) (s : Session D dev) (output : List ℕ) (result : Result T E) (e : E) (k : ℕ) → result ≡ Err e → EndTaken stage line output s → Appends a b (take k output) →
+  pub end_failed : {T E : Type 0} (b : Option (List ℕ)) (s : Session D) (output : List ℕ) (result : Result T E) (e : E) (k : ℕ) → result ≡ Err e → EndTaken dev stage line output s → Appends a b (take k output) →
       EndWritten a b stage line result
   end_failed b s output result e k is t w = record {
     written = take k output;
@@ -112,7 +112,7 @@ module _ {D : Type 0} {dev : Ghosts D} (a : Option (List ℕ)) (stage : Stage) (
     all = rw is tt;
   }
 
-  module _ (b c : Option (List ℕ)) (i : ℕ) (s : Session D dev) (before : ClosedTo a b stage line i s) (next : Option ArrayString)
+  module _ (b c : Option (List ℕ)) (i : ℕ) (s : Session D) (before : ClosedTo dev a b stage line i s) (next : Option ArrayString)
       (is : option_map (λ l. l.bytes) next ≡ slice_get (closing_lines before.taken.next) i) where
     abbrev lines : List (List ℕ)
     lines = closing_lines before.taken.next
@@ -130,7 +130,7 @@ module _ {D : Type 0} {dev : Ghosts D} (a : Option (List ℕ)) (stage : Stage) (
         append_assoc before.output (concat (take i lines)) (line ++ rest) ∙
         ap (λ t. before.output ++ t) (sym (concat_parted lines i next is))
 
-    pub closed_more : Appends b c (printed next) → ClosedTo a c stage line (suc i) s
+    pub closed_more : Appends b c (printed next) → ClosedTo dev a c stage line (suc i) s
     closed_more w = record {
       output = before.output;
       taken = before.taken;
@@ -147,7 +147,7 @@ module _ {D : Type 0} {dev : Ghosts D} (a : Option (List ℕ)) (stage : Stage) (
       all = rw by_error tt;
     }
 
-  pub closed_all : {T E : Type 0} (b c : Option (List ℕ)) (i : ℕ) (s : Session D dev) (result : Result T E) → (before : ClosedTo a b stage line i s) → length (closing_lines before.taken.next) ≤ i → Keeps b c →
+  pub closed_all : {T E : Type 0} (b c : Option (List ℕ)) (i : ℕ) (s : Session D) (result : Result T E) → (before : ClosedTo dev a b stage line i s) → length (closing_lines before.taken.next) ≤ i → Keeps b c →
       EndWritten a c stage line result
   closed_all b c i s result before h kept =
       let all = before.output ++ concat (closing_lines before.taken.next) in
@@ -160,7 +160,7 @@ module _ {D : Type 0} {dev : Ghosts D} (a : Option (List ℕ)) (stage : Stage) (
       }
 
 -- the output for bytes that were taken, and for bytes more
-begins : {D : Type 0} {dev : Ghosts D} (s : Session D dev) (read written unwritten : List ℕ) → BytesTaken waiting [] read (written ++ unwritten) s → (input more : List ℕ) → input ≡ read ++ more → OutputBegins input written
+begins : {D : Type 0} {dev : Ghosts D} (s : Session D) (read written unwritten : List ℕ) → BytesTaken dev waiting [] read (written ++ unwritten) s → (input more : List ℕ) → input ≡ read ++ more → OutputBegins input written
 begins s read written unwritten t input more is output o =
     let open_lines = closed (left_open [] read) more ++ at_end (left_open [] (read ++ more)) in
     let cut = ap (λ l. l ++ at_end (left_open [] (read ++ more))) (closed_join [] read more) ∙ append_assoc (closed [] read) (closed (left_open [] read) more) (at_end (left_open [] (read ++ more))) in
@@ -174,7 +174,7 @@ begins s read written unwritten t input more is output o =
     ap (take (length written)) all ∙ take-append_seam written rest
 
 -- and for bytes after which the input ends
-ends : {D : Type 0} {dev : Ghosts D} (s : Session D dev) (read output end : List ℕ) → (t : BytesTaken waiting [] read output s) → SessionEnded t.next (left_open [] read) end → ConsoleOutput read (output ++ end)
+ends : {D : Type 0} {dev : Ghosts D} (s : Session D) (read output end : List ℕ) → (t : BytesTaken dev waiting [] read output s) → SessionEnded t.next (left_open [] read) end → ConsoleOutput read (output ++ end)
 ends s read output end t e = record {
   printed = output ++ e.printed;
   last = e.last;
@@ -194,7 +194,7 @@ stopped_stays : (lines : List (List ℕ)) → LinesAnswered stopped lines [] sto
 stopped_stays [] = (refl, refl)
 stopped_stays (line ∷ lines) = ([], stopped, [], (refl, refl), stopped_stays lines, refl)
 
-stopped_output : {D : Type 0} {dev : Ghosts D} (s : Session D dev) (read written : List ℕ) → (t : BytesTaken waiting [] read written s) → t.next ≡ stopped → (input more : List ℕ) → input ≡ read ++ more → ConsoleOutput input written
+stopped_output : {D : Type 0} {dev : Ghosts D} (s : Session D) (read written : List ℕ) → (t : BytesTaken dev waiting [] read written s) → t.next ≡ stopped → (input more : List ℕ) → input ≡ read ++ more → ConsoleOutput input written
 stopped_output s read written t at_stop input more is =
     let after = closed (left_open [] read) more ++ at_end (left_open [] (read ++ more)) in
     let cut = ap (λ l. l ++ at_end (left_open [] (read ++ more))) (closed_join [] read more) ∙ append_assoc (closed [] read) (closed (left_open [] read) more) (at_end (left_open [] (read ++ more))) in
@@ -226,10 +226,10 @@ no_read_failed given said e f given_is is same none kind by_reading =
     none kind (given_is ∙ ap Err (sym same ∙ read))
 
 -- the whole loop
-pub run_begun : {D : Type 0} {dev : Ghosts D} (a c : Option (List ℕ)) (s : Session D dev) → SessionStands s waiting [] → RunSoFar a a c c s
+pub run_begun : {D : Type 0} {dev : Ghosts D} (a c : Option (List ℕ)) (s : Session D) → SessionStands dev s waiting [] → RunSoFar dev a a c c s
 run_begun a c s k = record { read = []; written = []; consumed = consumes_none a; appended = appends_none c; taken = record { next = waiting; answered = (refl, refl); stands = k } }
 
-module _ {D : Type 0} {dev : Ghosts D} (a b c d : Option (List ℕ)) (s : Session D dev) (before : RunSoFar a b c d s) where
+module _ {D : Type 0} {dev : Ghosts D} (a b c d : Option (List ℕ)) (s : Session D) (before : RunSoFar dev a b c d s) where
   abbrev stage : Stage
   stage = before.taken.next
 
@@ -237,13 +237,13 @@ module _ {D : Type 0} {dev : Ghosts D} (a b c d : Option (List ℕ)) (s : Sessio
   held = left_open [] before.read
 
   -- nothing was read
-  pub run_kept : (b' : Option (List ℕ)) → Keeps b b' → RunSoFar a b' c d s
+  pub run_kept : (b' : Option (List ℕ)) → Keeps b b' → RunSoFar dev a b' c d s
   run_kept b' kept = record { read = before.read; written = before.written; consumed = consumes_kept a b b' before.read before.consumed kept; appended = before.appended; taken = before.taken }
 
   -- reading failed, or the tries are over
   pub read_failed : {T : Type 0} (b' : Option (List ℕ)) (result : Result T Failure) (e : Failure) → result ≡ Err e → Keeps b b' → LoopEnded a b' c d result
   read_failed b' result e is kept =
-      let t = subst (λ o. BytesTaken waiting [] before.read o s) (sym (append-nil before.written)) before.taken in
+      let t = subst (λ o. BytesTaken dev waiting [] before.read o s) (sym (append-nil before.written)) before.taken in
       record {
         read = before.read;
         written = before.written;
@@ -257,23 +257,23 @@ module _ {D : Type 0} {dev : Ghosts D} (a b c d : Option (List ℕ)) (s : Sessio
       }
 
   -- a piece was read
-  module _ {T E : Type 0} (b' d' : Option (List ℕ)) (got : List ℕ) (taken_from : Consumes b b' got) (result : Result T E) (after : Session D dev) (p : PieceAnswered d d' stage held got result after) where
-    joined : BytesTaken waiting [] (before.read ++ p.taken) ((before.written ++ p.written) ++ p.unwritten) after
-    joined = subst (λ o. BytesTaken waiting [] (before.read ++ p.taken) o after) (sym (append_assoc before.written p.written p.unwritten))
+  module _ {T E : Type 0} (b' d' : Option (List ℕ)) (got : List ℕ) (taken_from : Consumes b b' got) (result : Result T E) (after : Session D) (p : PieceAnswered dev d d' stage held got result after) where
+    joined : BytesTaken dev waiting [] (before.read ++ p.taken) ((before.written ++ p.written) ++ p.unwritten) after
+    joined = subst (λ o. BytesTaken dev waiting [] (before.read ++ p.taken) o after) (sym (append_assoc before.written p.written p.unwritten))
         (taken_join dev s after waiting [] before.read p.taken before.written (p.written ++ p.unwritten) before.taken p.answered)
 
     got_parts : before.read ++ got ≡ (before.read ++ p.taken) ++ p.untaken
     got_parts = ap (λ t. before.read ++ t) p.parts ∙ sym (append_assoc before.read p.taken p.untaken)
 
-    pub run_more : (p.untaken ≡ []) × (p.unwritten ≡ []) → RunSoFar a b' c d' after
+    pub run_more : (p.untaken ≡ []) × (p.unwritten ≡ []) → RunSoFar dev a b' c d' after
     run_more all = record {
       read = before.read ++ got;
       written = before.written ++ p.written;
       consumed = consumes_join a b b' before.read got before.consumed taken_from;
       appended = appends_join c d d' before.written p.written before.appended p.appended;
       taken =
-          subst (λ x. BytesTaken waiting [] x (before.written ++ p.written) after) (sym (got_parts ∙ ap (λ t. (before.read ++ p.taken) ++ t) all.0 ∙ append-nil (before.read ++ p.taken)))
-          (subst (λ o. BytesTaken waiting [] (before.read ++ p.taken) o after) (ap (λ t. (before.written ++ p.written) ++ t) all.1 ∙ append-nil (before.written ++ p.written)) joined);
+          subst (λ x. BytesTaken dev waiting [] x (before.written ++ p.written) after) (sym (got_parts ∙ ap (λ t. (before.read ++ p.taken) ++ t) all.0 ∙ append-nil (before.read ++ p.taken)))
+          (subst (λ o. BytesTaken dev waiting [] (before.read ++ p.taken) o after) (ap (λ t. (before.written ++ p.written) ++ t) all.1 ∙ append-nil (before.written ++ p.written)) joined);
     }
 
     -- writing failed in it
@@ -328,7 +328,7 @@ module _ {D : Type 0} {dev : Ghosts D} (a b c d : Option (List ℕ)) (s : Sessio
       let read = before.read in
       let written = before.written in
       let whole = stopped_output s read written before.taken (is_at_stop stage (sym is)) in
-      let t = subst (λ o. BytesTaken waiting [] read o s) (sym (append-nil written)) before.taken in
+      let t = subst (λ o. BytesTaken dev waiting [] read o s) (sym (append-nil written)) before.taken in
       let inputs = read_first a b read before.consumed in
       record {
         read = read;

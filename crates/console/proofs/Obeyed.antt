@@ -14,10 +14,10 @@ use Rattle.console.specs.declared.console.Console.{Console}
 use Rattle.console.specs.Replies.{edit_in_hold, replied}
 use Rattle.console.specs.StandsFor.{LineObeyed}
 
-module _ {D : Type 0} {d : Ghosts D} (old : Console D d) (line : List ℕ) (command : Command) (means : Means line command) (reply : Result Reply Refusal) where
+module _ {D : Type 0} (d : Ghosts D) (old : Console D) (line : List ℕ) (command : Command) (means : Means line command) (reply : Result Reply Refusal) where
   -- an edit within a hold of its own
-  pub edited : (e : Edit) (answer : Result ℕ Refusal) (new : Console D d) → command ≡ commands.Edit e → reply ≡ replied Rows answer → Follows old.filter (edit_in_hold e) answer new.filter →
-      LineObeyed old line reply new
+  pub edited : (e : Edit) (answer : Result ℕ Refusal) (new : Console D) → command ≡ commands.Edit e → reply ≡ replied Rows answer → Follows d old.filter (edit_in_hold e) answer new.filter →
+      LineObeyed d old line reply new
   edited e answer new is said step = record {
     read = Some (commands.Edit e);
     reads = subst (Means line) is means;
@@ -25,8 +25,8 @@ module _ {D : Type 0} {d : Ghosts D} (old : Console D d) (line : List ℕ) (comm
   }
 
   -- a question changes nothing
-  pub asked : (number : ℕ) (answer : Result Bool Refusal) → command ≡ commands.Ask number → reply ≡ replied Says answer → Follows old.filter (ask_step number) answer old.filter →
-      LineObeyed old line reply old
+  pub asked : (number : ℕ) (answer : Result Bool Refusal) → command ≡ commands.Ask number → reply ≡ replied Says answer → Follows d old.filter (ask_step number) answer old.filter →
+      LineObeyed d old line reply old
   asked number answer is said step = record {
     read = Some (commands.Ask number);
     reads = subst (Means line) is means;

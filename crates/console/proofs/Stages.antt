@@ -24,7 +24,7 @@ pub kept_line : (line : Option (Bor (List ℕ))) (given : Result (Bor (List ℕ)
 kept_line line given r text from is e = (short_kept text r.now (sym (ap (option_map (λ x. x.now)) (from ∙ ap result_ok is)) ∙ e)).0
 
 module _ {D : Type 0} (d : Ghosts D) (text : List ℕ) where
-  begun_ok : (stage : Stage) (c : Console D d) → StageStands {D = D} {d = d} Waiting stage → (setup : Option Setup) → ReadsSetup text setup → Begun setup (Ok c) → LineClosed stage text [] (Running c)
+  begun_ok : (stage : Stage) (c : Console D) → StageStands {D = D} d Waiting stage → (setup : Option Setup) → ReadsSetup text setup → Begun d setup (Ok c) → LineClosed d stage text [] (Running c)
   begun_ok waiting c k (Some s) m b = record {
     next = running (opened s.width (min 120 s.slots) 0);
     answered = (
@@ -40,18 +40,18 @@ module _ {D : Type 0} (d : Ghosts D) (text : List ℕ) where
   begun_ok stopped c k setup m b = absurd k
 
   -- a first line starts the console
-  pub first_line : (at : code.Stage D d) (stage : Stage) (c : Console D d) → at ≡ Waiting → StageStands at stage → (setup : Option Setup) × ReadsSetup text setup × Begun setup (Ok c) →
-      LineClosed stage text [] (Running c)
-  first_line at stage c is k b = begun_ok stage c (subst (λ a. StageStands a stage) is k) b.0 b.1 b.2
+  pub first_line : (at : code.Stage D) (stage : Stage) (c : Console D) → at ≡ Waiting → StageStands d at stage → (setup : Option Setup) × ReadsSetup text setup × Begun d setup (Ok c) →
+      LineClosed d stage text [] (Running c)
+  first_line at stage c is k b = begun_ok stage c (subst (λ a. StageStands d a stage) is k) b.0 b.1 b.2
 
   -- a later line is replied to
-  taken : (stage : Stage) (c after : Console D d) (r : Result Reply Refusal) → StageStands (Running c) stage → LineObeyed c text r after →
-      LineClosed stage text (reply_bytes r) (Running after)
+  taken : (stage : Stage) (c after : Console D) (r : Result Reply Refusal) → StageStands d (Running c) stage → LineObeyed d c text r after →
+      LineClosed d stage text (reply_bytes r) (Running after)
   taken waiting c after r k step = absurd k
   taken (running b) c after r k obeyed =
       let t = obeyed.follows b k in record { next = running _; answered = (obeyed.read, obeyed.reads, ap reply_bytes t.0, refl); stands = t.1 }
   taken stopped c after r k step = absurd k
 
-  pub later_line : (at : code.Stage D d) (stage : Stage) (c after : Console D d) (r : Result Reply Refusal) → at ≡ Running c → StageStands at stage →
-      LineObeyed c text r after → LineClosed stage text (reply_bytes r) (Running after)
-  later_line at stage c after r is k step = taken stage c after r (subst (λ a. StageStands a stage) is k) step
+  pub later_line : (at : code.Stage D) (stage : Stage) (c after : Console D) (r : Result Reply Refusal) → at ≡ Running c → StageStands d at stage →
+      LineObeyed d c text r after → LineClosed d stage text (reply_bytes r) (Running after)
+  later_line at stage c after r is k step = taken stage c after r (subst (λ a. StageStands d a stage) is k) step

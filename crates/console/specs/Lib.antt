@@ -1,3 +1,4 @@
+pub mod Parts
 pub mod Replies
 pub mod StandsFor
 pub mod Closing

@@ -17,14 +17,14 @@ pub record BytesWritten {T E : Type 0} (shown now : Option (List ℕ)) (bytes : 
   pub all : OnOk result (length bytes ≤ count)
 
 -- a session took a piece of the input, or the beginning of it at which writing failed; of the answers a beginning was written
-pub record PieceAnswered {D T E : Type 0} {d : Ghosts D} (shown now : Option (List ℕ)) (stage : Stage) (line piece : List ℕ) (result : Result T E) (after : Session D d) : Type 0 where
+pub record PieceAnswered {D T E : Type 0} (d : Ghosts D) (shown now : Option (List ℕ)) (stage : Stage) (line piece : List ℕ) (result : Result T E) (after : Session D) : Type 0 where
   pub taken : List ℕ
   pub untaken : List ℕ
   pub written : List ℕ
   pub unwritten : List ℕ
   pub parts : piece ≡ taken ++ untaken
   pub appended : Appends shown now written
-  pub answered : BytesTaken stage line taken (written ++ unwritten) after
+  pub answered : BytesTaken d stage line taken (written ++ unwritten) after
   pub all : OnOk result ((untaken ≡ []) × (unwritten ≡ []))
 
 -- of what a session prints at the input's end a beginning was written
@@ -36,12 +36,12 @@ pub record EndWritten {T E : Type 0} (shown now : Option (List ℕ)) (stage : St
   pub all : OnOk result (unwritten ≡ [])
 
 -- a new session took these bytes from the reader, and all that answers them was written
-pub record RunSoFar {D : Type 0} {d : Ghosts D} (unread left shown now : Option (List ℕ)) (s : Session D d) : Type 0 where
+pub record RunSoFar {D : Type 0} (d : Ghosts D) (unread left shown now : Option (List ℕ)) (s : Session D) : Type 0 where
   pub read : List ℕ
   pub written : List ℕ
   pub consumed : Consumes unread left read
   pub appended : Appends shown now written
-  pub taken : BytesTaken waiting [] read written s
+  pub taken : BytesTaken d waiting [] read written s
 
 -- what was written is a beginning of the output for this input
 abbrev pub OutputBegins : List ℕ → List ℕ → Type 0

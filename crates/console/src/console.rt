@@ -1,6 +1,4 @@
 // The console over a device.
-ghost use Rattle.std.specs.Prelude.{◌≡◌, false};
-
 use device::device::RowDevice;
 use filter::filter::Filter;
 use filter_calls::slots::slots_kept;
@@ -10,6 +8,7 @@ use lines::print::{PrintedLine, row_line};
 use lines::reply::Reply;
 use rows::edit::Edit;
 use rows::refusal::Refusal;
+use std::marker::Model;
 
 // The console's filter needs no tag of its own: its tokens never leave the console.
 const CONSOLE_TAG: u64 = 0;
@@ -18,11 +17,21 @@ const CONSOLE_TAG: u64 = 0;
 #[derive(Drop)]
 pub struct Console<D: RowDevice> {
     filter: Filter<D>,
-    ghost free: { filter.held ≡ false },
+}
+
+impl<D: RowDevice> Model for Console<D> {
+    ghost use Rattle.std.specs.Prelude.{◌≡◌, false};
+    ghost use Rattle.console.specs.Parts.{ConsoleParts};
+
+    ghost Value = { ConsoleParts D };
+
+    ghost view = { λ c. record { filter = c.filter } };
+
+    ghost invariant = { λ c. c.filter.held ≡ false };
 }
 
 impl<D: RowDevice> Console<D> {
-    ghost use Rattle.std.specs.Prelude.{◌≤◌, length, slice_get, slice_index_or, None};
+    ghost use Rattle.std.specs.Prelude.{◌≡◌, ◌≤◌, length, slice_get, slice_index_or, None};
     ghost use Rattle.std.specs.Option.{option_map};
     ghost use Rattle.device.specs.KeptBeside.{KeptBeside};
     ghost use Rattle.ledger.specs.Ledger.{Ledger, opened, ledger_rows};
@@ -31,11 +40,11 @@ impl<D: RowDevice> Console<D> {
     ghost use Rattle.filter_calls.specs.Promises.{PromiseKept};
     ghost use Rattle.console.specs.Closing.{row_lines, slot_line};
     ghost use Rattle.console.specs.Replies.{edit_in_hold, reply_writes};
-    ghost use Rattle.console.specs.StandsFor.{ConsoleStands, LineObeyed};
+    ghost use Rattle.console.specs.StandsFor.{ConsoleStands, ConsoleStandsForOne, LineObeyed};
 
     // A console over the device, which holds no numbers.
     pub fn open(device: D) -> Console<D>
-        ensures opened { ConsoleStands result
+        ensures opened { ConsoleStands D.RowDevice result
             (opened (D.state device).width (length (D.state device).slots) 0) }
         ensures beside { KeptBeside D.RowDevice device
             (all_slots (length (D.state device).slots))
@@ -48,7 +57,7 @@ impl<D: RowDevice> Console<D> {
 
     // Obeys a line, without its newline, and replies to it or refuses it.
     pub fn answer(&mut self, line: &[u8]) -> Result<Reply, Refusal>
-        ensures obeyed { LineObeyed self.old line.now result self.new }
+        ensures obeyed { LineObeyed D.RowDevice self.old line.now result self.new }
         ensures beside { KeptBeside D.RowDevice self.old.filter.device
             (reply_writes (length (D.state self.old.filter.device).slots) result)
             self.new.filter.device }
@@ -67,7 +76,7 @@ impl<D: RowDevice> Console<D> {
 
     // One edit within a hold of its own.
     fn edit(&mut self, edit: Edit) -> Result<usize, Refusal>
-        ensures step { Follows self.old.filter (edit_in_hold edit) result self.new.filter }
+        ensures step { Follows D.RowDevice self.old.filter (edit_in_hold edit) result self.new.filter }
         ensures beside { KeptBeside D.RowDevice self.old.filter.device
             (edit_writes result (length (D.state self.old.filter.device).slots))
             self.new.filter.device }
@@ -82,8 +91,9 @@ impl<D: RowDevice> Console<D> {
     /// How many slots there are; whatever lines were obeyed before, the rows in them are right.
     pub fn slot_count(&self) -> usize
         ensures count { result ≡ length (D.state self.now.filter.device).slots }
-        ensures kept { (b : Ledger) → ConsoleStands self.now b →
+        ensures kept { (b : Ledger) → ConsoleStands D.RowDevice self.now b →
             PromiseKept (D.state self.now.filter.device) (D.levels self.now.filter.device) b }
+        ensures stands { ConsoleStandsForOne D.RowDevice self.now }
     {
         slots_kept(&self.filter)
     }
@@ -93,9 +103,10 @@ impl<D: RowDevice> Console<D> {
         ensures by_device { option_map (λ line. line.bytes) result ≡
             slot_line (D.state self.now.filter.device).width
             (slice_index_or (D.state self.now.filter.device).slots slot None) }
-        ensures by_ledger { (b : Ledger) → ConsoleStands self.now b →
+        ensures by_ledger { (b : Ledger) → ConsoleStands D.RowDevice self.now b →
             option_map (λ line. line.bytes) result ≡ slice_get (row_lines (ledger_rows b)) slot }
         ensures few { 120 ≤ slot → result ≡ None }
+        ensures stands { ConsoleStandsForOne D.RowDevice self.now }
     {
         let row = self.filter.report_slot(slot).ok()??;
         Some(row_line(self.filter.width(), row))
@@ -104,6 +115,7 @@ impl<D: RowDevice> Console<D> {
     // Ends the console and gives the device back as it is.
     pub fn into_device(self) -> D
         ensures device { result ≡ self.filter.device }
+        ensures stands { ConsoleStandsForOne D.RowDevice self }
     {
         let Console { filter } = self;
         filter.into_device()

@@ -52,8 +52,8 @@ fn answer_piece<D: NewDevice + Drop, W: Write>(
     piece: &[u8],
     output: &mut W,
 ) -> Result<(), Failure>
-    ensures answered { AtItsStage session.old (λ stage line.
-        PieceAnswered (W.contents output.old) (W.contents output.new) stage line piece.now
+    ensures answered { AtItsStage D.RowDevice session.old (λ stage line.
+        PieceAnswered D.RowDevice (W.contents output.old) (W.contents output.new) stage line piece.now
         result session.new) }
     ensures by_writing { NoReadFailed result }
 {
@@ -70,7 +70,7 @@ fn write_end<D: NewDevice + Drop, W: Write>(
     session: &mut Session<D>,
     output: &mut W,
 ) -> Result<(), Failure>
-    ensures ended { AtItsStage session.old (λ stage line.
+    ensures ended { AtItsStage D.RowDevice session.old (λ stage line.
         EndWritten (W.contents output.old) (W.contents output.new) stage line result) }
     ensures by_writing { NoReadFailed result }
 {

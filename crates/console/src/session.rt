@@ -23,7 +23,7 @@ impl<D: NewDevice + Drop> Session<D> {
 
     /// A session that waits for its first line.
     pub fn new() -> Session<D>
-        ensures begun { SessionStands result waiting [] }
+        ensures begun { SessionStands D.RowDevice result waiting [] }
     {
         Session {
             stage: Stage::Waiting,
@@ -33,8 +33,8 @@ impl<D: NewDevice + Drop> Session<D> {
 
     /// Takes one byte of the input; the line to print, if the byte closes a line that is answered.
     pub fn take_byte(&mut self, byte: u8) -> Option<PrintedLine>
-        ensures taken { AtItsStage self.old (λ stage line.
-            BytesTaken stage line (byte ∷ []) (printed result) self.new) }
+        ensures taken { AtItsStage D.RowDevice self.old (λ stage line.
+            BytesTaken D.RowDevice stage line (byte ∷ []) (printed result) self.new) }
     {
         if byte == b'\n' {
             return self.close_line();
@@ -45,8 +45,8 @@ impl<D: NewDevice + Drop> Session<D> {
 
     /// At the input's end: closes a line that is open; the line to print, if that is answered.
     pub fn end_input(&mut self) -> Option<PrintedLine>
-        ensures ended { AtItsStage self.old (λ stage line.
-            EndTaken stage line (printed result) self.new) }
+        ensures ended { AtItsStage D.RowDevice self.old (λ stage line.
+            EndTaken D.RowDevice stage line (printed result) self.new) }
     {
         if self.line.is_empty() {
             return None;
@@ -57,7 +57,7 @@ impl<D: NewDevice + Drop> Session<D> {
     /// The closing line at an index, as they follow the answer to the last line: the rows in their order, or the refusal
     /// of a session that never had a first line. There are at most 120.
     pub fn closing_line(&self, index: usize) -> Option<PrintedLine>
-        ensures line { AtItsStage self.now (λ stage line.
+        ensures line { AtItsStage D.RowDevice self.now (λ stage line.
             option_map (λ line. line.bytes) result ≡ slice_get (closing_lines stage) index) }
         ensures few { 120 ≤ index → result ≡ None }
     {
@@ -66,15 +66,15 @@ impl<D: NewDevice + Drop> Session<D> {
 
     /// Whether the console has stopped: it prints nothing more, whatever comes.
     pub fn has_stopped(&self) -> bool
-        ensures value { AtItsStage self.now (λ stage line. result ≡ is_stopped stage) }
+        ensures value { AtItsStage D.RowDevice self.now (λ stage line. result ≡ is_stopped stage) }
     {
         matches!(self.stage, Stage::Stopped)
     }
 
     // Closes the line that is open, and gives the line to print, if it is answered.
     fn close_line(&mut self) -> Option<PrintedLine>
-        ensures step { AtItsStage self.old (λ stage line.
-            LineClosed stage line (printed result) self.new.stage) }
+        ensures step { AtItsStage D.RowDevice self.old (λ stage line.
+            LineClosed D.RowDevice stage line (printed result) self.new.stage) }
         ensures empty { buffered self.new.line ≡ Some [] }
     {
         let reply = self.stage.take_line(self.line.line());

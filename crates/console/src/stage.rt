@@ -27,9 +27,9 @@ pub(super) enum Stage<D: RowDevice> {
 impl<D: NewDevice + Drop> Stage<D> {
     // Takes a line, or nothing in place of one that is too long, and gives the line to print, if it is answered.
     pub(super) fn take_line(&mut self, line: Option<&[u8]>) -> Option<PrintedLine>
-        ensures step { (stage : Meaning) (text : List ℕ) → StageStands self.old stage →
+        ensures step { (stage : Meaning) (text : List ℕ) → StageStands D.RowDevice self.old stage →
             option_map (λ x. x.now) line.entry ≡ kept text →
-            LineClosed stage text (printed result) self.new }
+            LineClosed D.RowDevice stage text (printed result) self.new }
     {
         match self {
             Stage::Waiting => match begin(line) {
@@ -49,7 +49,7 @@ impl<D: NewDevice + Drop> Stage<D> {
 
     // The closing line at an index: a row of a session that runs, or the refusal of one that never had a first line.
     pub(super) fn closing_line(&self, index: usize) -> Option<PrintedLine>
-        ensures line { (stage : Meaning) → StageStands self.now stage →
+        ensures line { (stage : Meaning) → StageStands D.RowDevice self.now stage →
             option_map (λ line. line.bytes) result ≡ slice_get (closing_lines stage) index }
         ensures few { 120 ≤ index → result ≡ None }
     {
@@ -64,7 +64,7 @@ impl<D: NewDevice + Drop> Stage<D> {
 // The console that a first line asks for.
 fn begin<D: NewDevice>(line: Option<&[u8]>) -> Result<Console<D>, Refusal>
     ensures begun { (text : List ℕ) → option_map (λ x. x.now) line.entry ≡ kept text →
-        (setup : Maybe SetupLine) × ReadsSetup text setup × Begun setup result }
+        (setup : Maybe SetupLine) × ReadsSetup text setup × Begun D.RowDevice setup result }
 {
     let line = line.ok_or(Refusal::MalformedLine)?;
     let setup = parse_setup(line)?;
@@ -75,7 +75,7 @@ fn begin<D: NewDevice>(line: Option<&[u8]>) -> Result<Console<D>, Refusal>
 // The reply of a running console.
 fn answer<D: RowDevice>(console: &mut Console<D>, line: Option<&[u8]>) -> Result<Reply, Refusal>
     ensures obeyed { (text : List ℕ) → option_map (λ x. x.now) line.entry ≡ kept text →
-        LineObeyed console.old text result console.new }
+        LineObeyed D.RowDevice console.old text result console.new }
 {
     console.answer(line.ok_or(Refusal::MalformedLine)?)
 }

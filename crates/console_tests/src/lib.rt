@@ -2,6 +2,8 @@
 #![tactic(auto)]
 
 #[cfg(test)]
+mod consoles;
+#[cfg(test)]
 mod loops;
 #[cfg(test)]
 mod parsing;

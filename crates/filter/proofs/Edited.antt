@@ -28,11 +28,11 @@ use Rattle.filter.specs.Standing.{Standing}
 use Rattle.filter.specs.StandsFor.{StandsFor}
 use Rattle.filter.proofs.Laid.{length_laid}
 
-pub token_fitting : {D : Type 0} {d : Ghosts D} (f : Filter D d) (b : Ledger) → StandsFor f b → (token : ℕ) → (f.held && eqb token f.tag) ≡ true → token_fits b token ≡ true
-token_fitting f b s token h = ap₂ (λ m (t : ℕ). m && eqb token t) (sym s.held) (sym s.tag) ∙ h
+pub token_fitting : {D : Type 0} (d : Ghosts D) (f : Filter D) (b : Ledger) → StandsFor d f b → (token : ℕ) → (f.held && eqb token f.tag) ≡ true → token_fits b token ≡ true
+token_fitting d f b s token h = ap₂ (λ m (t : ℕ). m && eqb token t) (sym s.held) (sym s.tag) ∙ h
 
 -- a device has as many slots as its ledger knows
-pub slots_known : {D : Type 0} (d : Ghosts D) (f : Filter D d) (b : Ledger) → StandsFor f b → length (d.state f.device).slots ≡ b.slots
+pub slots_known : {D : Type 0} (d : Ghosts D) (f : Filter D) (b : Ledger) → StandsFor d f b → length (d.state f.device).slots ≡ b.slots
 slots_known d f b s = ap length s.slots ∙ length_laid b s.fit
 
 -- the rows of a ledger, read from words, are those laid in its slots
@@ -47,7 +47,7 @@ words_laid b words same count e =
     ap₂ (λ (l : List Slot) (k : ℕ). l ++ replicate k None) (ap (map slot_read) same ∙ rows_read (ledger_rows b)) (ap₂ (λ (j k : ℕ). j - k) e long)
 
 -- what the table answers, as the ledger sees it
-module _ {D : Type 0} (d : Ghosts D) (f : Filter D d) (b : Ledger) (s : StandsFor f b) (token : ℕ) (e : Edit) (fits : token_fits b token ≡ true) (n : ℕ) (its_width : n ≡ (d.state f.device).width) (r : Result RunTable Refusal) (yes : (S : NumberSet) → TableOf n S f.runs → edit_in_width n e ≡ true → EditAnswered n e S r) (no : edit_in_width n e ≡ false → r ≡ Err NumberOutsideWidth) where
+module _ {D : Type 0} (d : Ghosts D) (f : Filter D) (b : Ledger) (s : StandsFor d f b) (token : ℕ) (e : Edit) (fits : token_fits b token ≡ true) (n : ℕ) (its_width : n ≡ (d.state f.device).width) (r : Result RunTable Refusal) (yes : (S : NumberSet) → TableOf n S f.runs → edit_in_width n e ≡ true → EditAnswered n e S r) (no : edit_in_width n e ≡ false → r ≡ Err NumberOutsideWidth) where
   pub same_width : n ≡ b.width
   same_width = its_width ∙ s.width
 

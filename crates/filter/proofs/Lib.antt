@@ -1,4 +1,5 @@
 pub mod Laid
+pub mod Seen
 pub mod Emptying
 pub mod Opened
 pub mod Putting

@@ -3,4 +3,5 @@ pub mod Writes
 pub mod Compared
 pub mod Holds
 pub mod Standing
+pub mod Parts
 pub mod StandsFor

@@ -8,13 +8,17 @@ use Rattle.ledger.specs.Ledger.{Ledger}
 use Rattle.ledger.specs.Steps.{Step}
 
 -- the filter stands for the ledger: its device, its table, its hold and its tag do
-abbrev pub StandsFor : {D : Type 0} → {d : Ghosts D} → Filter D d → Ledger → Type 0
-StandsFor {D} {d} f b = Standing (d.state f.device) f.runs f.held f.tag b
+abbrev pub StandsFor : {D : Type 0} → Ghosts D → Filter D → Ledger → Type 0
+StandsFor d f b = Standing (d.state f.device) f.runs f.held f.tag b
+
+-- and for some ledger it does
+abbrev pub StandsForOne : {D : Type 0} → Ghosts D → Filter D → Type 0
+StandsForOne d f = ∥ ((b : Ledger) × StandsFor d f b) ∥₁
 
 -- the call does what the ledger's does: whichever ledger the filter stood for, it answers as that one, and the filter stands
 -- for its next state
-abbrev pub Follows : {D : Type 0} → {d : Ghosts D} → {A : Type 0} → Filter D d → Step A → A → Filter D d → Type 0
-Follows old step answer new = (b : Ledger) → StandsFor old b → (answer ≡ (step b).0) × StandsFor new (step b).1
+abbrev pub Follows : {D : Type 0} → Ghosts D → {A : Type 0} → Filter D → Step A → A → Filter D → Type 0
+Follows d old step answer new = (b : Ledger) → StandsFor d old b → (answer ≡ (step b).0) × StandsFor d new (step b).1
 
 -- the token at hand: there is one just while the ledger is marked, and it has the ledger's tag
 abbrev pub AtHand : Ledger → Option HoldToken → Type 0

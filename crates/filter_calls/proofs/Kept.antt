@@ -32,7 +32,7 @@ module _ (s : DeviceState) (l : Level) (a : Alike s l) where
       let many = a.as_many in
       omega arith
 
-module _ {D : Type 0} (d : Ghosts D) (f : Filter D d) (b : Ledger) (s : StandsFor f b) where
+module _ {D : Type 0} (d : Ghosts D) (f : Filter D) (b : Ledger) (s : StandsFor d f b) where
   rows_there : rows_in b.width (d.state f.device).slots ≡ ledger_rows b
   rows_there = ap (rows_in b.width) s.slots ∙ rows_laid b
 

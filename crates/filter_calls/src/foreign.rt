@@ -29,7 +29,7 @@ impl<D: RowDevice> HeldFilter<D> {
 
     // Releases the filter with its token, and gives its device back.
     pub(super) fn let_go(self) -> D
-        ensures kept { (b : Ledger) → StandsFor self.filter b →
+        ensures kept { (b : Ledger) → StandsFor D.RowDevice self.filter b →
             PromiseKept (D.state result) (D.levels result) (freed b) }
         ensures beside { KeptBeside D.RowDevice self.filter.device [] result }
     {

@@ -29,8 +29,8 @@ impl<D: RowDevice> Player<D> {
 
     // Makes one call.
     pub(super) fn perform(&mut self, call: FilterCall) -> Result<FilterAnswer, RefusedCall>
-        ensures step { Follows self.old.filter (call_step call) (compared result) self.new.filter }
-        ensures in_full { Follows self.old.filter (full_step call) result self.new.filter }
+        ensures step { Follows D.RowDevice self.old.filter (call_step call) (compared result) self.new.filter }
+        ensures in_full { Follows D.RowDevice self.old.filter (full_step call) result self.new.filter }
         ensures beside { KeptBeside D.RowDevice self.old.filter.device
             (answer_writes (length (D.state self.old.filter.device).slots) result)
             self.new.filter.device }
@@ -62,7 +62,7 @@ impl<D: RowDevice> Player<D> {
 
     // Holds the filter, keeps the token, and tells its tag.
     fn hold(&mut self) -> Result<u64, Refusal>
-        ensures step { Follows self.old.filter hold_step result self.new.filter }
+        ensures step { Follows D.RowDevice self.old.filter hold_step result self.new.filter }
         ensures beside { KeptBeside D.RowDevice self.old.filter.device [] self.new.filter.device }
     {
         let token = self.filter.hold()?;
@@ -76,7 +76,7 @@ impl<D: RowDevice> Player<D> {
 
     // Shows a token of this tag for an edit: the one at hand if it has the tag, else that of another filter.
     fn edit(&mut self, tag: u64, edit: Edit) -> Result<usize, Refusal>
-        ensures step { Follows self.old.filter (edit_step tag edit) result self.new.filter }
+        ensures step { Follows D.RowDevice self.old.filter (edit_step tag edit) result self.new.filter }
         ensures beside { KeptBeside D.RowDevice self.old.filter.device
             (edit_writes result (length (D.state self.old.filter.device).slots))
             self.new.filter.device }
@@ -92,7 +92,7 @@ impl<D: RowDevice> Player<D> {
 
     // Shows a token of this tag for a release: the one at hand if it has the tag, else that of another filter.
     fn release(&mut self, tag: u64) -> Result<(), RefusedCall>
-        ensures step { Follows self.old.filter (told (released_by tag) (release_step tag)) result
+        ensures step { Follows D.RowDevice self.old.filter (told (released_by tag) (release_step tag)) result
             self.new.filter }
         ensures beside { KeptBeside D.RowDevice self.old.filter.device [] self.new.filter.device }
     {
@@ -108,7 +108,7 @@ impl<D: RowDevice> Player<D> {
     // Shows the token of another filter for a release: it is refused, and hands the token back.
     fn release_with_another(&mut self, tag: u64) -> RefusedCall
         requires not_at_hand { token_has_tag self.old.token tag ≡ false }
-        ensures step { Follows self.old.filter (told (released_by tag) (release_step tag)) (Err result)
+        ensures step { Follows D.RowDevice self.old.filter (told (released_by tag) (release_step tag)) (Err result)
             self.new.filter }
         ensures beside { KeptBeside D.RowDevice self.old.filter.device [] self.new.filter.device }
     {
@@ -131,7 +131,7 @@ impl<D: RowDevice> Player<D> {
 
     // Releases the filter if it is held, and gives its device back.
     pub(super) fn close(self) -> D
-        ensures kept { (b : Ledger) → StandsFor self.filter b →
+        ensures kept { (b : Ledger) → StandsFor D.RowDevice self.filter b →
             PromiseKept (D.state result) (D.levels result) (freed b) }
         ensures beside { KeptBeside D.RowDevice self.filter.device [] result }
     {

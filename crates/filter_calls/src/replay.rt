@@ -23,7 +23,7 @@ pub struct Replayed<D: RowDevice> {
 pub fn replay<D: RowDevice>(device: D, tag: u64, exchanges: &mut [FilterExchange]) -> Replayed<D>
     ensures promise { Promise (D.state device) tag exchanges.old exchanges.new
         (D.state result.filter.device) (D.levels result.filter.device) }
-    ensures stands { StandsFor result.filter (last_ledger (D.state device) tag exchanges.old) }
+    ensures stands { StandsFor D.RowDevice result.filter (last_ledger (D.state device) tag exchanges.old) }
     ensures token { AtHand (last_ledger (D.state device) tag exchanges.old) result.token }
     ensures beside { KeptBeside D.RowDevice device
         (replay_writes (length (D.state device).slots) exchanges.new) result.filter.device }
@@ -36,7 +36,7 @@ pub fn replay<D: RowDevice>(device: D, tag: u64, exchanges: &mut [FilterExchange
 pub(super) fn play<D: RowDevice>(device: D, tag: u64, exchanges: &mut [FilterExchange]) -> Player<D>
     ensures promise { Promise (D.state device) tag exchanges.old exchanges.new
         (D.state result.filter.device) (D.levels result.filter.device) }
-    ensures stands { StandsFor result.filter (last_ledger (D.state device) tag exchanges.old) }
+    ensures stands { StandsFor D.RowDevice result.filter (last_ledger (D.state device) tag exchanges.old) }
     ensures token { AtHand (last_ledger (D.state device) tag exchanges.old) result.token }
     ensures beside { KeptBeside D.RowDevice device
         (replay_writes (length (D.state device).slots) exchanges.new) result.filter.device }

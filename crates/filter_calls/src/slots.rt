@@ -1,7 +1,7 @@
 // What holds of every filter at any time, and so of one whose calls were made by hand.
 ghost use Rattle.std.specs.Prelude.{◌≡◌, length};
 ghost use Rattle.ledger.specs.Ledger.{Ledger};
-ghost use Rattle.filter.specs.StandsFor.{StandsFor};
+ghost use Rattle.filter.specs.StandsFor.{StandsFor, StandsForOne};
 ghost use Rattle.filter_calls.specs.Promises.{PromiseKept};
 
 use device::device::RowDevice;
@@ -12,8 +12,9 @@ use filter::filter::Filter;
 #[tactic(auto, using(crate::proofs::Kept::promise_kept))]
 pub fn slots_kept<D: RowDevice>(filter: &Filter<D>) -> usize
     ensures count { result ≡ length (D.state filter.now.device).slots }
-    ensures kept { (b : Ledger) → StandsFor filter.now b →
+    ensures kept { (b : Ledger) → StandsFor D.RowDevice filter.now b →
         PromiseKept (D.state filter.now.device) (D.levels filter.now.device) b }
+    ensures stands { StandsForOne D.RowDevice filter.now }
 {
     filter.slot_count()
 }

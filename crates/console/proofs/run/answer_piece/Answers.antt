@@ -11,7 +11,7 @@ returns-in_err-write_line-clause-answered g c =
     let p = err_from_is_err_and c.from_residual.result c.from_residual.ensures.1 in
     let w = c.write_line.ensures.written in
     λ stage line k.
-    piece_failed a stage line c.args.piece.now b d c.loop-byte.byte-index c.loop-byte.session c.take_byte.new.self (printed c.take_byte.result)
+    piece_failed g.D.RowDevice a stage line c.args.piece.now b d c.loop-byte.byte-index c.loop-byte.session c.take_byte.new.self (printed c.take_byte.result)
     (c.loop-byte.invariant stage line k) c.loop-byte-test.true c.take_byte.ensures.taken c.from_residual.result p.0 w.count p.1 w.appended
 
 pub loop-byte-preserved : goal.loop-byte-preserved
@@ -21,7 +21,7 @@ loop-byte-preserved g c stage line k =
     let d = g.W.Write.contents c.write_line.new.output in
     let out = printed c.take_byte.result in
     let w = c.in_ok-write_line.ensures.written in
-    piece_more a stage line c.args.piece.now b d c.loop-byte.byte-index c.loop-byte.session c.take_byte.new.self out
+    piece_more g.D.RowDevice a stage line c.args.piece.now b d c.loop-byte.byte-index c.loop-byte.session c.take_byte.new.self out
     (c.loop-byte.invariant stage line k) c.loop-byte-test.true c.take_byte.ensures.taken (whole_written b d out _ w w.all)
 
 pub returns-clause-answered : goal.returns-clause-answered
@@ -30,4 +30,4 @@ returns-clause-answered g c =
     let b = g.W.Write.contents c.loop-byte.output in
     let d = g.W.Write.contents c.flush.new.self in
     λ stage line k.
-    piece_all a stage line c.args.piece.now b d c.loop-byte.byte-index c.loop-byte.session c.map_err.result (c.loop-byte.invariant stage line k) c.loop-byte-test.false c.flush.ensures.bytes
+    piece_all g.D.RowDevice a stage line c.args.piece.now b d c.loop-byte.byte-index c.loop-byte.session c.map_err.result (c.loop-byte.invariant stage line k) c.loop-byte-test.false c.flush.ensures.bytes

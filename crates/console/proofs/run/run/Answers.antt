@@ -72,11 +72,11 @@ loop-preserved g c =
           let now = g.W.Write.contents w.answer_piece.new.output in
           let answered = w.in_ok-answer_piece-in-Ok.ensures.answered before.taken.next (left_open [] before.read) before.taken.stands in
           let after = run_more a b o p c.loop.session before left now (take w.in-Ok.count c.read.new.buf) w.in-Ok.ensures.bytes.0 (Ok w.in_ok-answer_piece-in-Ok.field-0) w.answer_piece.new.session answered answered.all in
-          subst (λ t. RunSoFar a left o (g.W.Write.contents t) c.match-read.session) (sym w.output-is)
-          (subst (λ t. RunSoFar a left o now t) (sym w.session-is) after)
+          subst (λ t. RunSoFar g.D.RowDevice a left o (g.W.Write.contents t) c.match-read.session) (sym w.output-is)
+          (subst (λ t. RunSoFar g.D.RowDevice a left o now t) (sym w.session-is) after)
       | in-Err w ↦
-          subst (λ t. RunSoFar a left o (g.W.Write.contents t) c.match-read.session) (sym w.output-is)
-          (subst (λ t. RunSoFar a left o p t) (sym w.session-is) (run_kept a b o p c.loop.session before left w.in-Err.ensures.bytes))
+          subst (λ t. RunSoFar g.D.RowDevice a left o (g.W.Write.contents t) c.match-read.session) (sym w.output-is)
+          (subst (λ t. RunSoFar g.D.RowDevice a left o p t) (sym w.session-is) (run_kept a b o p c.loop.session before left w.in-Err.ensures.bytes))
     ]
 
 pub returns : goal.returns

@@ -44,7 +44,7 @@ loop-index-preserved g c stage line k =
     let w = c.in_ok-write_line-2.ensures.written in
     let before = c.loop-index.invariant stage line k in
     let next : suc c.loop-index.index ≡ c.loop-index.index + 1 = omega arith in
-    subst (λ i. ClosedTo a d stage line i c.end_input.new.self) next
+    subst (λ i. ClosedTo g.D.RowDevice a d stage line i c.end_input.new.self) next
     (closed_more a stage line b d c.loop-index.index c.end_input.new.self before c.closing_line.result
     (c.closing_line.ensures.line before.taken.next [] before.taken.stands) (whole_written b d (printed c.closing_line.result) _ w w.all))
 

@@ -14,7 +14,7 @@ returns-in_err-setup g c =
     record {
       begun = λ text e.
           let same = kept_line _ _ _ text c.ok_or.ensures.ok_part c.in_ok-line.was e in
-          (None, (λ s m. let q = c.in_err-setup.ensures.accepted s (subst (λ t. SetsUp t s) same m) in grind arith), subst (Begun None) (sym p.1) (p.2 ∙ c.in_err-setup.ensures.only));
+          (None, (λ s m. let q = c.in_err-setup.ensures.accepted s (subst (λ t. SetsUp t s) same m) in grind arith), subst (Begun g.D.RowDevice None) (sym p.1) (p.2 ∙ c.in_err-setup.ensures.only));
     }
 
 pub returns-in_err-width : goal.returns-in_err-width
@@ -25,7 +25,7 @@ returns-in_err-width g c =
     record {
       begun = λ text e.
           let same = kept_line _ _ _ text c.ok_or.ensures.ok_part c.in_ok-line.was e in
-          (Some s, subst (λ t. SetsUp t s) (sym same) c.in_ok-setup.ensures.only, subst (Begun (Some s)) (sym p.1) (width_bad s no.1, p.2 ∙ no.0));
+          (Some s, subst (λ t. SetsUp t s) (sym same) c.in_ok-setup.ensures.only, subst (Begun g.D.RowDevice (Some s)) (sym p.1) (width_bad s no.1, p.2 ∙ no.0));
     }
 
 pub returns : goal.returns
@@ -40,6 +40,6 @@ returns g c =
           let same = kept_line _ _ _ text c.ok_or.ensures.ok_part c.in_ok-line.was e in (
             Some s,
             subst (λ t. SetsUp t s) (sym same) c.in_ok-setup.ensures.only,
-            (width_good s (omega arith) (omega arith), subst (ConsoleStands c.open.result) (blank_ledger _ _ _ s.width 0 c.new.ensures.begins made) c.open.ensures.opened),
+            (width_good s (omega arith) (omega arith), subst (ConsoleStands g.D.RowDevice c.open.result) (blank_ledger _ _ _ s.width 0 c.new.ensures.begins made) c.open.ensures.opened),
           );
     }

@@ -58,7 +58,7 @@ returns g c =
     let none = drop_all i was c.loop-exchange-test.false in
     let h : length es ≤ i = omega arith in
     let last = sym (ap (λ (l : List (Exchange FilterCall Answer)). after_calls b (calls_of l)) none) ∙ inv.4 in
-    let stands = subst (StandsFor f) last inv.1 in
+    let stands = subst (StandsFor d f) last inv.1 in
     let full = sym (ap (λ (l : List (Exchange FilterCall Answer)). take i es ++ answered_in_full b (calls_of l)) none ∙ append-nil (take i es) ∙ take_all i es h) ∙ inv.3 in
     record {
       promise = record {

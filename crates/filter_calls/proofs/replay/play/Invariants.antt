@@ -10,9 +10,9 @@ use Rattle.filter_calls.proofs.replay.play.Given as goal
 abbrev pub invariant-loop-exchange : goal.invariant-loop-exchange
 invariant-loop-exchange g l =
     let left = drop l.exchange-index l.initial.exchanges in
-    (first : Ledger) → StandsFor l.initial.player.filter first →
+    (first : Ledger) → StandsFor g.D.RowDevice l.initial.player.filter first →
     (b : Ledger)
-    × (StandsFor l.player.filter b)
+    × (StandsFor g.D.RowDevice l.player.filter b)
     × (drop l.exchange-index l.exchanges ≡ left)
     × (take l.exchange-index l.exchanges ++ answered_in_full b (calls_of left) ≡ answered_in_full first (calls_of l.initial.exchanges))
     × (after_calls b (calls_of left) ≡ after_calls first (calls_of l.initial.exchanges))

@@ -10,6 +10,6 @@ returns-in-Ok g c = record { step = λ stage text k e. first_line g.D.RowDevice 
 pub returns-in-Running : goal.returns-in-Running
 returns-in-Running g c = record {
   step = λ stage text k e.
-      subst (λ t. LineClosed stage text t (Running c.answer.new.console)) (sym c.reply_line-in-Running.ensures.bytes)
+      subst (λ t. LineClosed g.D.RowDevice stage text t (Running c.answer.new.console)) (sym c.reply_line-in-Running.ensures.bytes)
       (later_line g.D.RowDevice text c.args.self.now stage c.in-Running.console c.answer.new.console c.answer.result c.in-Running.is k (c.answer.ensures.obeyed text e));
 }

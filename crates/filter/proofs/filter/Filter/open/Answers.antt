@@ -13,7 +13,7 @@ stands : (g : Over) (c : goal.After-empty g) → Standing (g.D.RowDevice.state c
 stands g c = stands_opened (g.D.RowDevice.state c.args.device) _ c.empty.result c.args.tag (c.mute.ensures.after ∙ ap (λ s. after_mute s false) c.empty_from.ensures.after) c.empty.ensures.runs
 
 pub invariant_of-result : goal.invariant_of-result
-invariant_of-result g c = record { stands = ∣ (opened (g.D.RowDevice.state c.args.device).width (length (g.D.RowDevice.state c.args.device).slots) c.args.tag, stands g c) ∣₁ }
+invariant_of-result g c = ∣ (opened (g.D.RowDevice.state c.args.device).width (length (g.D.RowDevice.state c.args.device).slots) c.args.tag, stands g c) ∣₁
 
 pub returns-clause-beside : goal.returns-clause-beside
 returns-clause-beside g c =

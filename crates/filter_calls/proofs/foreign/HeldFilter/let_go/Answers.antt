@@ -17,7 +17,7 @@ returns g c =
       kept = λ b s.
           -- the released filter stands for the ledger without its mark
           let step = c.release.ensures.step b s in
-          let released = subst (StandsFor last) (after_granted_release b c.args.self.token.tag (sym (ap refusal_of c.unwrap.ensures) ∙ step.0)) step.1 in
+          let released = subst (StandsFor g.D.RowDevice last) (after_granted_release b c.args.self.token.tag (sym (ap refusal_of c.unwrap.ensures) ∙ step.0)) step.1 in
           subst (λ v. PromiseKept (d.state v) (d.levels v) (freed b)) (sym device) (promise_kept d last (freed b) released);
       beside = subst (KeptBeside d c.args.self.filter.device []) (sym device) c.release.ensures.beside;
     }

@@ -17,15 +17,15 @@ returns g c =
     let last = c.match-token.filter in
     let device = c.into_device.ensures.device in
     -- the last filter stands for the ledger without its mark
-    let released : (b : Ledger) → StandsFor own b → StandsFor last (freed b) = λ b s. elim c.match-token.branch [
+    let released : (b : Ledger) → StandsFor d own b → StandsFor d last (freed b) = λ b s. elim c.match-token.branch [
       | in-Some w ↦
           let step = w.release.ensures.step b s in
           let after = after_granted_release b w.in-Some.token.tag (sym (ap refusal_of w.unwrap.ensures) ∙ step.0) in
-          subst (λ f. StandsFor f (freed b)) (sym w.filter-is) (subst (StandsFor w.release.new.self) after step.1)
+          subst (λ f. StandsFor d f (freed b)) (sym w.filter-is) (subst (StandsFor d w.release.new.self) after step.1)
       | in_default w ↦
           let is_free = free own.held own.tag c.args.self.token w.in_default.is c.args.self.at_hand in
-          let unmarked : StandsFor own (freed b) = record { width = s.width; muted = s.muted ∙ sym s.held ∙ is_free; held = is_free; tag = s.tag; runs = s.runs; fit = s.fit; slots = s.slots } in
-          subst (λ f. StandsFor f (freed b)) (sym w.filter-is) unmarked
+          let unmarked : StandsFor d own (freed b) = record { width = s.width; muted = s.muted ∙ sym s.held ∙ is_free; held = is_free; tag = s.tag; runs = s.runs; fit = s.fit; slots = s.slots } in
+          subst (λ f. StandsFor d f (freed b)) (sym w.filter-is) unmarked
     ] in
     let beside : KeptBeside d own.device [] last.device = elim c.match-token.branch [
       | in-Some w ↦ subst (λ f. KeptBeside d own.device [] f.device) (sym w.filter-is) w.release.ensures.beside

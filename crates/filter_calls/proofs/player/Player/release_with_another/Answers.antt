@@ -6,7 +6,7 @@ use Rattle.filter_calls.proofs.player.Player.release_with_another.Goals as goal
 refused : (g : Over) (c : goal.After-release g) → is_err c.release.result ≡ true
 refused g c =
     let own = c.args.self.now.filter in
-    c.release.ensures.refused_unless_it_fits ∙ ap (λ (t : ℕ). not (own.held && eqb t own.tag)) c.open.ensures.tag ∙
+    c.release.ensures.refused_unless_it_fits ∙ ap (λ (t : ℕ). not (own.held && eqb t own.tag)) c.open-other.ensures.tag ∙
     never_fits own.held own.tag c.args.tag c.args.self.now.token c.args.self.now.at_hand c.requires.not_at_hand
 
 pub invariant_of-self : goal.invariant_of-self
