@@ -25,6 +25,9 @@ fn a_console_is_taken_by_value(rt: HostRuntime) -> Result<(), Fail> {
     let console = Console::open(LentDevice::new(&mut table));
     assert_eq!(rt; answered(console, b"+ 1 4", b"? 4"), Ok(Reply::Says(true)));
     let console = Console::open(LentDevice::new(&mut table));
-    assert_eq!(rt; answered(console, b"+ 1 4", b"? 8"), Err(Refusal::NumberOutsideWidth));
+    assert_eq!(rt;
+        answered(console, b"+ 1 4", b"? 8"),
+        Err(Refusal::NumberOutsideWidth)
+    );
     Ok(())
 }

@@ -81,7 +81,11 @@ fn opened<'a>(
 ) -> Option<(Filter<Counted<'a>>, &'a mut u32)> {
     let width = Width::try_from(places).ok()?;
     let muted = true;
-    let device = Counted { width, muted, count: turns };
+    let device = Counted {
+        width,
+        muted,
+        count: turns,
+    };
     Some((Filter::open(device, TAG), questions))
 }
 
@@ -96,7 +100,10 @@ fn asked(opened: Option<(Filter<Counted<'_>>, &mut u32)>, number: u64) -> Option
 fn a_filter_and_a_count_are_one_value(rt: HostRuntime) -> Result<(), Fail> {
     let mut turns = 0;
     let mut questions = 0;
-    assert_eq!(rt; asked(opened(4, &mut turns, &mut questions), 15), Some(false));
+    assert_eq!(rt;
+        asked(opened(4, &mut turns, &mut questions), 15),
+        Some(false)
+    );
     assert_eq!(rt; asked(opened(4, &mut turns, &mut questions), 16), None);
     assert_eq!(rt; asked(opened(33, &mut turns, &mut questions), 0), None);
     assert_eq!(rt; (turns, questions), (2, 2));

@@ -27,7 +27,7 @@ pub type RunRows = ArrayVec<RowWords, MOST_SLOTS>;
 /// set, the rows take precisely the set. Refused 2 if an end of a run is no number of the width, then 7 if the rows are
 /// more.
 ///
-/// It is the one function that makes the rows of a set: another maker of rows is to stand in its place.
+/// It is the one function that makes the rows of a set for a filter: another maker of rows is to stand in its place.
 pub fn rows_of_runs(width: Width, runs: &[Range], room: usize) -> Result<RunRows, Refusal>
     ensures outside { all_in_width (places_of width) (ranges_of runs.now) ≡ false →
         result ≡ Err NumberOutsideWidth }
