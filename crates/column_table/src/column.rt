@@ -21,10 +21,10 @@ impl Column {
     };
 
     // The slots that admit the digit.
-    pub(super) fn admitting(self, one: bool) -> SlotSet
-        ensures value { result ≡ (if one then self.ones else self.zeros) }
+    pub(super) fn admitting(&self, one: bool) -> &SlotSet
+        ensures value { result.now ≡ (if one then self.now.ones else self.now.zeros) }
     {
-        if one { self.ones } else { self.zeros }
+        if one { &self.ones } else { &self.zeros }
     }
 
     // What the slot asks for, or nothing if it admits neither digit.

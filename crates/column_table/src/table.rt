@@ -52,7 +52,7 @@ impl ColumnTable {
             bits: (1 << self.slot_count()) - 1,
         };
         for (place, column) in self.columns[..places].iter().enumerate() {
-            slots.intersect(column.admitting(has_one(number, place as u32)));
+            slots.intersect(*column.admitting(has_one(number, place as u32)));
         }
         slots
     }

@@ -37,7 +37,7 @@ loop-place-preserved c i =
     let x = c.args.number in
     let short : p < c.places-places.result = search rules in
     c.intersect.ensures.value i ∙
-    column_more i p x c.loop-place.slots.bits (slot_count t) c.admitting.result t.columns _ (c.loop-place.invariant i)
+    column_more i p x c.loop-place.slots.bits (slot_count t) c.admitting.result.now t.columns _ (c.loop-place.invariant i)
     c.has_one.ensures.value (rw (get_or-take c.places-places.result t.columns p blank_column short) at c.admitting.ensures.value)
 
 pub returns : goal.returns
