@@ -1,4 +1,4 @@
-use Rattle.std.proofs.Common.{sym, ap, ◌∙◌, subst}
+use Rattle.std.proofs.Common.{sym, ◌∙◌, subst}
 use Rattle.filter.specs.StandsFor.{StandsFor, StandsForOne}
 use Rattle.filter.proofs.Laid.{ask_by_ledger}
 use Rattle.filter.proofs.filter.Filter.ask.Goals as goal
