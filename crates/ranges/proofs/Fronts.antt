@@ -35,11 +35,11 @@ extended_rows front more m d x (r ∷ rows) h =
     ap₂ (λ (w : RowWords) (l : List RowWords). w ∷ l) (extended_row front more m d x r h.0) (extended_rows front more m d x rows h.1)
 
 -- dashes add nothing
-plain_value : (m : ℕ) → value_word (plain m) ≡ 0
+pub plain_value : (m : ℕ) → value_word (plain m) ≡ 0
 plain_value zero = refl
 plain_value (suc m) = plain_value m
 
-plain_care : (m : ℕ) → care_word (plain m) ≡ 0
+pub plain_care : (m : ℕ) → care_word (plain m) ≡ 0
 plain_care zero = refl
 plain_care (suc m) = plain_care m
 

@@ -1,6 +1,7 @@
 -- The lists of straight runs and of runs that go round, as words behind a front.
 use Rattle.std.proofs.Common.{◌≡◌, ℕ, zero, suc, ◌+◌, ◌-◌, ◌*◌, ◌/◌, ◌%◌, ◌^◌, ◌<◌, ◌≤◌, Bool, true, false, cond, not, List, [], ◌∷◌, ◌++◌, map, length, take, Ok, sym, subst, refl, ap, ◌∙◌, ap₂, ltb, inl, inr, add_assoc, mod-lt, add-mul, zero-add, arith, pow_pos, pow_mono, pow-add}
 use Rattle.std.specs.List.{AllByRecursion}
+use Rattle.std.specs.Prelude.{◌==◌}
 use lib.Arith.{digits_lt}
 use lib.Bits.{bit_and, bit_xor, xor_shr, xor_self, xor_assoc, xor_zero_l, xor_zero_r, xor_lt}
 use Rattle.std.proofs.lemmas.Nat.{shr_split, shr_below, div_below, le-div, xor_mod}
@@ -11,7 +12,7 @@ use Rattle.covers.specs.Digits.{digit}
 use Rattle.covers.specs.RuleEquations.{plain}
 use Rattle.covers.specs.Symbols.{Symbols}
 use Rattle.covers.specs.Words.{value_word, care_word, symbols}
-use Rattle.covers.specs.Rules.{swap_first, straight_rows, round_rows, rows_of_run, run_first, run_last, rows_of_range}
+use Rattle.covers.specs.Rules.{swap_first, straight_rows, round_rows, rows_of_run, rows_of_range}
 use Rattle.covers.proofs.Equations.{equations_hold}
 use Rattle.covers.proofs.RowWords.{symbols_back, care_word_fits, clean_word}
 use Rattle.covers.proofs.Lists.{all_map}
@@ -22,11 +23,11 @@ use Rattle.ranges.specs.declared.front.Front.{Front}
 use Rattle.ranges.specs.declared.lead.Lead.{Lead}
 use Rattle.ranges.specs.declared.ends.Ends.{Ends}
 use Rattle.ranges.specs.declared.stretch.Stretch.{Stretch}
-use Rattle.ranges.specs.Building.{behind_words, behind_front, behind_lead, across_rows, straight_words, round_words, stretch_words, range_words, Extended, Begun, Split, Parted, EndsOf, Alone}
+use Rattle.ranges.specs.Building.{behind_words, behind_front, behind_lead, across_rows, straight_words, round_words, stretch_words, range_words, Extended, Begun, Split, OverMiddle, Parted, EndsOf, Alone}
 use Rattle.rows.specs.Memory.{rows_of, words_of}
 use Rattle.rows.specs.Widths.{in_width}
 use Rattle.ranges.specs.RangeRows.{range_answer, rows_in}
-use Rattle.ranges.proofs.Fronts.{symbol, same_words, extended_row, extended_rows, digit_behind, at_place}
+use Rattle.ranges.proofs.Fronts.{plain_care, plain_value, symbol, same_words, extended_row, extended_rows, digit_behind, at_place}
 use Rattle.ranges.proofs.EdgeLists.{extend}
 use Rattle.ranges.proofs.SplitEnds.{first_one, first_zero, first_low, last_one, last_zero, last_low, last_high}
 
@@ -245,6 +246,14 @@ module _ (stretch : Stretch) (rest : Ends) (s : Split stretch.ends rest) where
       ap (map (behind_front stretch.front)) (equations_hold.round_across rest.places rest.first rest.last rest.first_within rest.last_within) ∙
       swapped_list stretch.front lead rest.places front_places x (across_rows rest.places rest.first rest.last) (straight_rows_long (suc rest.places) rest.first (2 ^ rest.places + rest.last))
 
+-- a run that goes over the middle
+pub over_across : (stretch : Stretch) (rest : Ends) → Split stretch.ends rest → (lead : Lead) → OverMiddle stretch.ends → Begun stretch.front lead true →
+    round_words stretch ≡ map (behind_lead lead) (across_rows rest.places rest.first rest.last)
+over_across stretch rest s lead o x =
+    let p = s.places in
+    let e : stretch.ends.places - 1 ≡ rest.places = omega arith in
+    round_across_at stretch rest s lead (ap (λ k. digit k stretch.ends.first) (sym e) ∙ o.first) (ap (λ k. digit k stretch.ends.last) (sym e) ∙ o.last) x
+
 -- a stretch that is straight, and one that goes round
 pub stretch_straight : (stretch : Stretch) → stretch.ends.first ≤ stretch.ends.last → stretch_words stretch ≡ straight_words stretch
 stretch_straight stretch h = rw (le-leb stretch.ends.first stretch.ends.last h) refl
@@ -285,6 +294,21 @@ rows_read n rows rest k h e = ap (rows_of n) (first_rows rows rest k e) ∙ word
 pub within_fit : (n f l : ℕ) → in_width n f l ≡ true → (f < 2 ^ n) × (l < 2 ^ n)
 within_fit n f l w = let p = and_parts (ltb f (2 ^ n)) (ltb l (2 ^ n)) w in (ltb-true f (2 ^ n) p.0, ltb-true l (2 ^ n) p.1)
 
+-- the whole circle, and another range, which is a run with nothing before it
+module _ (ends : Ends) where
+  pub range_whole : (ends.first == ends.last + 1) ≡ true → range_words ends ≡ record { value = 0; care = 0 } ∷ []
+  unfolding rows_of_range
+  range_whole e =
+      let p = pow_pos ends.places in
+      rw (e, le-leb 0 (2 ^ ends.places - 1) (omega arith), equations_hold.whole ends.places)
+      (ap {B = List RowWords} (λ w. w ∷ []) (same_words (words_of (plain ends.places)) (record { value = 0; care = 0 }) (plain_value ends.places) (plain_care ends.places)))
+
+  pub range_alone : {stretch : Stretch} → (ends.first == ends.last + 1) ≡ false → Alone ends stretch → stretch_words stretch ≡ range_words ends
+  unfolding rows_of_range
+  range_alone {stretch} e alone =
+      words_behind stretch.front.words alone.value alone.care (rows_of_run stretch.ends.places stretch.ends.first stretch.ends.last) ∙
+      ap (λ e. map words_of (rows_of_run e.places e.first e.last)) alone.ends ∙ rw e refl
+
 -- the ends of a range are numbers of the width
 module _ {n f l : ℕ} {ends : Ends} (of : EndsOf n f l ends) where
   pub ends_fit : (f < 2 ^ n) × (l < 2 ^ n)
@@ -292,17 +316,6 @@ module _ {n f l : ℕ} {ends : Ends} (of : EndsOf n f l ends) where
 
   pub ends_granted : in_width n f l ≡ true
   ends_granted = rw (lt-ltb f (2 ^ n) ends_fit.0, lt-ltb l (2 ^ n) ends_fit.1)
-
-  -- the run of the range with nothing before it
-  pub run_is : {run : Ends} {stretch : Stretch} → run.places ≡ ends.places → run.first ≡ run_first ends.first ends.last → run.last ≡ run_last ends.places ends.first ends.last → Alone run stretch →
-      stretch_words stretch ≡ map words_of (rows_of_range n f l)
-  unfolding rows_of_range
-  run_is {run} {stretch} p a b alone =
-      words_behind stretch.front.words alone.value alone.care (rows_of_run stretch.ends.places stretch.ends.first stretch.ends.last) ∙
-      ap (λ e. map words_of (rows_of_run e.places e.first e.last)) alone.ends ∙
-      ap (λ k. map words_of (rows_of_run k run.first run.last)) p ∙ ap₂ (λ j k. map words_of (rows_of_run ends.places j k)) a b ∙
-      ap (λ k. map words_of (rows_of_run k (run_first ends.first ends.last) (run_last k ends.first ends.last))) of.places ∙
-      ap₂ (λ j k. map words_of (rows_of_run n (run_first j k) (run_last n j k))) of.first of.last
 
   pub range_made : range_words ends ≡ map words_of (rows_of_range n f l)
   range_made = ap (λ k. map words_of (rows_of_range k ends.first ends.last)) of.places ∙ ap₂ (λ j k. map words_of (rows_of_range n j k)) of.first of.last

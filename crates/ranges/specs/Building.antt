@@ -102,6 +102,12 @@ pub record Split (ends rest : Ends) : Type 0 where
 abbrev pub Parted : Ends → Type 0
 Parted ends = 0 < ends.places → (ends.first < 2 ^ (ends.places - 1)) × (2 ^ (ends.places - 1) ≤ ends.last)
 
+-- the first number begins with 1 and the last with 0
+pub record OverMiddle (ends : Ends) : Type 0 where
+  pub some : 0 < ends.places
+  pub first : digit (ends.places - 1) ends.first ≡ true
+  pub last : digit (ends.places - 1) ends.last ≡ false
+
 -- the list of 0a to 1b, both with m digits behind the first
 unfoldable pub across_rows : ℕ → ℕ → ℕ → List Symbols
 across_rows m a b = straight_rows (suc m) a (2 ^ m + b)

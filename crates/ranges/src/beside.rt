@@ -4,8 +4,7 @@ ghost use Rattle.arrayvec.specs.ArrayVec.{Extends};
 ghost use Rattle.covers.specs.WitnessNumbers.{under, one_turned, inner_numbers, parting_numbers, numbers_beside};
 
 use super::lists::NumberList;
-use super::turned::{with_digit_turned, write_each_turned};
-use rows::digit::has_one;
+use super::turned::{has_one, with_digit_turned, write_each_turned};
 
 // The number before and the number after, of which the last `places` digits are gone through.
 #[derive(Clone, Copy)]

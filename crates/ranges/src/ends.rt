@@ -1,6 +1,5 @@
 // The ends of a range.
 ghost use Rattle.std.specs.Prelude.{◌≡◌, ◌+◌, ◌*◌, ◌/◌, ◌%◌, ◌^◌, ◌<◌, ◌≤◌, ◌==◌, bit_xor};
-ghost use Rattle.covers.specs.Rules.{run_first, run_last};
 ghost use Rattle.rows.specs.Widths.{places_of};
 
 use rows::range::Range;
@@ -42,20 +41,11 @@ impl Ends {
         1u64 << self.places
     }
 
-    // The range's one run; if the first number is just one above the last, no number is left out: the whole circle.
-    pub(super) fn run(self) -> Ends
-        ensures places { result.places ≡ self.places }
-        ensures first { result.first ≡ run_first self.first self.last }
-        ensures last { result.last ≡ run_last self.places self.first self.last }
+    // Whether the first number is just one above the last: no number is left out, and the range is the whole circle.
+    pub(super) fn is_whole(self) -> bool
+        ensures value { result ≡ (self.first == self.last + 1) }
     {
-        if self.first == self.last + 1 {
-            return Ends {
-                places: self.places,
-                first: 0,
-                last: self.limit() - 1,
-            };
-        }
-        self
+        self.first == self.last + 1
     }
 
     // Whether the last number is the highest.

@@ -49,11 +49,14 @@ pub fn rows_of_range(width: Width, range: Range, memory: &mut [RowWords]) -> Res
     hand_over(&rows, memory)
 }
 
-// Adds the rows of the range.
+// Adds the rows of the range; the whole circle has one row, of dashes.
 pub(super) fn write_rows(ends: Ends, rows: &mut RowList)
     requires room { HasRoom rows.old (range_words ends) }
     ensures rows { Extends rows.old (range_words ends) rows.new }
 {
-    let mut stretch = Stretch::of(ends.run());
+    if ends.is_whole() {
+        return rows.push(RowWords { value: 0, care: 0 });
+    }
+    let mut stretch = Stretch::of(ends);
     stretch.write(rows);
 }

@@ -19,7 +19,7 @@ pub struct Stretch {
 
 impl Stretch {
     ghost use Rattle.arrayvec.specs.ArrayVec.{Extends};
-    ghost use Rattle.ranges.specs.Building.{HasRoom, Alone, Parted, across_words, stretch_words, straight_words, round_words};
+    ghost use Rattle.ranges.specs.Building.{HasRoom, Alone, OverMiddle, Parted, stretch_words, straight_words, round_words};
 
     // The numbers with nothing before them.
     pub(super) fn of(ends: Ends) -> Stretch
@@ -45,7 +45,10 @@ impl Stretch {
             let ends = ends.behind_first_digits();
             Across { lead, ends }
         } else {
-            self.write_round(rows)
+            self.write_round(rows);
+            let lead = Lead::behind(self.front, true);
+            let ends = self.ends.behind_first_digits();
+            Across { lead, ends }
         };
         across.write(rows);
     }
@@ -68,12 +71,13 @@ impl Stretch {
         Stretch { front, ends: rest }
     }
 
-    // Of the rows of first to the highest number and of 0 to last, adds those of the halves that are whole, and answers
-    // what is left. What is left behind a digit stands here in its place.
-    fn write_round(&mut self, rows: &mut RowList) -> Across
+    // Of the rows of first to the highest number and of 0 to last, adds those of the halves that are whole. What is left
+    // goes over its middle, and stands here in its place.
+    fn write_round(&mut self, rows: &mut RowList)
         requires round { self.old.ends.last < self.old.ends.first }
         requires room { HasRoom rows.old (round_words self.old) }
-        ensures rows { rows.new.items ++ across_words result ≡ rows.old.items ++ round_words self.old }
+        ensures rows { rows.new.items ++ round_words self.new ≡ rows.old.items ++ round_words self.old }
+        ensures over { OverMiddle self.new.ends }
     {
         let Stretch { front, ends } = *self;
         let rest = ends.behind_first_digits();
@@ -84,18 +88,16 @@ impl Stretch {
                 rows.push(front.with_digit(true).words);
                 let front = front.with_digit(false);
                 *self = Stretch { front, ends: rest };
-                return self.write_round(rows);
+                self.write_round(rows);
             }
             (true, true) => {
                 // both ends begin with 1: all that begin with 0 are in
                 rows.push(front.with_digit(false).words);
                 let front = front.with_digit(true);
                 *self = Stretch { front, ends: rest };
-                return self.write_round(rows);
+                self.write_round(rows);
             }
             (true, false) => {}
         }
-        let lead = Lead::behind(front, true);
-        Across { lead, ends: rest }
     }
 }

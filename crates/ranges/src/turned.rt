@@ -1,10 +1,19 @@
 // A number with one digit turned, and all such numbers of some places.
 ghost use Rattle.std.specs.Prelude.{◌≡◌, ◌<◌, ◌≤◌};
 ghost use Rattle.arrayvec.specs.ArrayVec.{Extends};
+ghost use Rattle.covers.specs.Digits.{digit};
 ghost use Rattle.ranges.specs.Building.{HasRoom};
 ghost use Rattle.covers.specs.WitnessNumbers.{turned, each_turned};
 
 use super::lists::NumberList;
+
+// Whether the number has a 1 at the place.
+pub(super) fn has_one(number: u64, place: u32) -> bool
+    requires place_within { place < 64 }
+    ensures value { result ≡ digit place number }
+{
+    (number >> place) & 1 == 1
+}
 
 // The number with the other digit at the place.
 pub(super) fn with_digit_turned(number: u64, place: u32) -> u64

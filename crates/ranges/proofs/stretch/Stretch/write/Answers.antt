@@ -1,6 +1,6 @@
 use Rattle.std.proofs.Common.{◌≡◌, ◌++◌, map, length, sym, ap, ap₂, ◌∙◌, length-append, arith}
 use Rattle.ranges.specs.Building.{across_rows, behind_lead, stretch_words}
-use Rattle.ranges.proofs.RunLists.{straight_across, stretch_straight, stretch_round}
+use Rattle.ranges.proofs.RunLists.{over_across, straight_across, stretch_straight, stretch_round}
 use Rattle.ranges.proofs.stretch.Stretch.write.Goals as goal
 use Rattle.ranges.proofs.stretch.Stretch.write.Goals.{then-self+else-ends-eq0, else-self}
 
@@ -14,7 +14,8 @@ whole c = elim c.if-self.branch [
       ap (λ l. c.args.rows.now.items ++ l) (sym all ∙ sym (stretch_straight c.args.self.now w.if-self.true))
   | else-self w ↦
       ap₂ (λ r a. r.items ++ map (behind_lead a.0) (across_rows a.1.0.places a.1.0.first a.1.0.last)) w.rows-is w.across-is ∙
-      w.write_round-across.ensures.rows ∙ ap (λ l. c.args.rows.now.items ++ l) (sym (stretch_round c.args.self.now w.if-self.false))
+      ap (λ l. w.write_round.new.rows.items ++ l) (sym (over_across w.write_round.new.self w.behind_first_digits-ends-else-self.result w.behind_first_digits-ends-else-self.ensures.split w.behind-lead-else-self.result w.write_round.ensures.over w.behind-lead-else-self.ensures.begun)) ∙
+      w.write_round.ensures.rows ∙ ap (λ l. c.args.rows.now.items ++ l) (sym (stretch_round c.args.self.now w.if-self.false))
 ]
 
 pub write-requires : goal.write-requires
