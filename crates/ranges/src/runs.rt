@@ -28,8 +28,6 @@ pub type RunRows = ArrayVec<RowWords, MOST_SLOTS>;
 /// more.
 ///
 /// It is the one function that makes the rows of a set for a filter: another maker of rows is to stand in its place.
-// made in place: handed back by value, the list would be copied at each edit
-#[inline(always)]
 pub fn rows_of_runs(width: Width, runs: &[Range], room: usize) -> Result<RunRows, Refusal>
     ensures outside { all_in_width (places_of width) (ranges_of runs.now) ≡ false →
         result ≡ Err NumberOutsideWidth }
