@@ -2,7 +2,7 @@
 use super::hold_token::{HoldToken, RefusedRelease};
 use super::placing::{empty_from, place_rows};
 use device::device::RowDevice;
-use ranges::runs::rows_of_runs;
+use ranges::runs::{RunRows, add_rows_of_runs};
 use rows::edit::Edit;
 use rows::range::Range;
 use rows::refusal::Refusal;
@@ -168,7 +168,8 @@ impl<D: RowDevice> Filter<D> {
         }
         let width = self.device.width();
         let runs = self.runs.after_edit(width, edit)?;
-        let rows = rows_of_runs(width, runs.runs(), self.device.slot_count())?;
+        let mut rows = RunRows::new();
+        add_rows_of_runs(width, runs.runs(), self.device.slot_count(), &mut rows)?;
         place_rows(&mut self.device, &rows);
         self.runs = runs;
         Ok(rows.len())

@@ -1,8 +1,10 @@
 -- The rows of several ranges.
-use Rattle.std.proofs.Common.{◌≡◌, ℕ, zero, suc, ◌+◌, ◌^◌, ◌<◌, ◌≤◌, true, false, List, [], ◌∷◌, ◌++◌, Err, Result, length, get_or, map, min, take, sym, refl, ap, ◌∙◌, subst, ap₂, arith}
+use Rattle.std.proofs.Common.{◌≡◌, ℕ, zero, suc, ◌+◌, ◌^◌, ◌<◌, ◌≤◌, true, false, List, [], ◌∷◌, ◌++◌, Ok, Err, Result, length, get_or, map, take, drop, sym, refl, ap, ◌∙◌, subst, ap₂, arith}
 use lib.Bits.{bit_and}
+use Rattle.std.specs.Bool.{⊤}
 use Rattle.std.specs.List.{AllByRecursion}
-use Rattle.std.proofs.lemmas.List.{length-append, length-map, map-append, take_more, map_push, flat_map_more}
+use Rattle.std.proofs.Math.Seq.{drop-append_seam}
+use Rattle.std.proofs.lemmas.List.{append_assoc, length-append, length-map, map-append, take_more, map_push, flat_map_more}
 use Rattle.std.proofs.lemmas.List.Folds.{list_all_at, list_all-map}
 use Rattle.std.proofs.lemmas.Bool.{lt-ltb}
 use Rattle.arrayvec.specs.ArrayVec.{ArrayVec}
@@ -18,13 +20,12 @@ use Rattle.circle.proofs.Rows.{rows as set_rows}
 use Rattle.circle.proofs.Runs.{are_runs}
 use Rattle.rows.specs.declared.range.Range.{Range}
 use Rattle.rows.specs.declared.refusal.Refusal.{Refusal}
-use Rattle.rows.specs.declared.refusal.Refusal.TheVariants.{TooManyRows}
 use Rattle.rows.specs.declared.row_words.RowWords.{RowWords}
 use Rattle.rows.specs.Memory.{rows_of, words_of}
 use Rattle.rows.specs.Ranges.{ranges_of}
 use Rattle.rows.specs.Widths.{in_width}
 use Rattle.rows.proofs.Ranges.{no_range}
-use Rattle.ranges.specs.SeveralRanges.{all_in_width, rows_of_ranges, RowsMade, RunsOf}
+use Rattle.ranges.specs.SeveralRanges.{all_in_width, rows_of_ranges, RowsAdded, RowsMade, RunsOf}
 use Rattle.ranges.proofs.RunLists.{words_clean, words_read, words_within}
 
 -- proper runs get the lists of runs
@@ -78,30 +79,50 @@ rows_front n (r ∷ R) (suc i) =
     let b = length-append (rows_of_range n r.first r.last) (rows_of_ranges n (ranges_of R)) in
     omega arith
 
--- the rows of one range more, behind those of the ranges before it
-module _ (n : ℕ) (R : List Range) (i : ℕ) (here : i < length R) (done more : List RowWords)
-    (so_far : done ≡ map words_of (rows_of_ranges n (ranges_of (take i R)))) (next : more ≡ map words_of (rows_of_range n (get_or R i no_range).first (get_or R i no_range).last)) where
-  pub more_rows : done ++ more ≡ map words_of (rows_of_ranges n (ranges_of (take (i + 1) R)))
+-- the rows of one range more, behind those of the ranges before it and what a list held
+module _ (n : ℕ) (R : List Range) (i : ℕ) (here : i < length R) (held done more : List RowWords)
+    (so_far : done ≡ held ++ map words_of (rows_of_ranges n (ranges_of (take i R)))) (next : more ≡ map words_of (rows_of_range n (get_or R i no_range).first (get_or R i no_range).last)) where
+  pub more_rows : done ++ more ≡ held ++ map words_of (rows_of_ranges n (ranges_of (take (i + 1) R)))
   more_rows =
+      let before = rows_of_ranges n (ranges_of (take i R)) in
+      let row = rows_of_range n (get_or R i no_range).first (get_or R i no_range).last in
       ap₂ (λ (x y : List RowWords). x ++ y) so_far next ∙
-      sym (map-append words_of (rows_of_ranges n (ranges_of (take i R))) (rows_of_range n (get_or R i no_range).first (get_or R i no_range).last)) ∙
-      ap (map words_of) (sym (rows_more n R i here))
+      append_assoc held (map words_of before) (map words_of row) ∙
+      ap (λ (l : List RowWords). held ++ l) (sym (map-append words_of before row) ∙ ap (map words_of) (sym (rows_more n R i here)))
 
   -- they are as many as their words, and no more than all
-  pub more_counted : length (done ++ more) ≡ length (rows_of_ranges n (ranges_of (take (i + 1) R)))
-  more_counted = ap length more_rows ∙ length-map (rows_of_ranges n (ranges_of (take (i + 1) R))) words_of
+  pub more_counted : length (done ++ more) ≡ length held + length (rows_of_ranges n (ranges_of (take (i + 1) R)))
+  more_counted =
+      let rows = rows_of_ranges n (ranges_of (take (i + 1) R)) in
+      let a = length-append held (map words_of rows) in
+      let b = length-map rows words_of in
+      ap length more_rows ∙ omega arith
 
-  pub more_within_all : length done + length more ≤ length (rows_of_ranges n (ranges_of R))
+  pub more_within_all : length done + length more ≤ length held + length (rows_of_ranges n (ranges_of R))
   more_within_all = let a = length-append done more in let b = more_counted in let k = rows_front n R (i + 1) in omega arith
 
--- a refusal of too many rows
-pub too_many : (rows : List Symbols) (room : ℕ) (result : Result (ArrayVec RowWords) Refusal) (e : Refusal) → result ≡ Err e → e ≡ TooManyRows → min room 120 < length rows → RowsMade rows room result
-too_many rows room result e is told h = subst (RowsMade rows room) (sym is) (told, h)
+-- rows added to a list that held none
+module _ (rows : List Symbols) (room : ℕ) (old new : ArrayVec RowWords) (none : old.items ≡ []) where
+  pub made_alone : RowsAdded rows room old new (Ok tt) → RowsMade rows room (Ok new)
+  made_alone added =
+      let k = ap length none in
+      let few = added.1 in
+      (added.0 ∙ ap (λ (l : List RowWords). l ++ map words_of rows) none, omega arith)
+
+  pub refused_alone : (e : Refusal) → RowsAdded rows room old new (Err e) → RowsMade rows room (Err e)
+  refused_alone e added =
+      let k = ap length none in
+      let over = added.1 in
+      (added.0, omega arith)
 
 -- what is promised of the runs of a set follows
 module _ (n : ℕ) (S : NumberSet) (R : List Range) (of : RunsOf n S R) where
   pub set_made : (room : ℕ) (result : Result (ArrayVec RowWords) Refusal) → (all_in_width n (ranges_of R) ≡ true → RowsMade (rows_of_ranges n (ranges_of R)) room result) → RowsMade (rows_of_set n S) room result
   set_made room result made = subst (λ rows. RowsMade rows room result) (rows_of_its_runs n S (ranges_of R) of) (made (its_runs_within n S (ranges_of R) of))
+
+  -- the same of rows added
+  pub set_added : (room : ℕ) (old new : ArrayVec RowWords) (result : Result ⊤ Refusal) → (all_in_width n (ranges_of R) ≡ true → RowsAdded (rows_of_ranges n (ranges_of R)) room old new result) → RowsAdded (rows_of_set n S) room old new result
+  set_added room old new result added = subst (λ rows. RowsAdded rows room old new result) (rows_of_its_runs n S (ranges_of R) of) (added (its_runs_within n S (ranges_of R) of))
 
 -- the words of all rows
 module _ (n : ℕ) (R : List Range) (items : List RowWords) (is : items ≡ map words_of (rows_of_ranges n (ranges_of R))) where
@@ -117,3 +138,25 @@ module _ (n : ℕ) (R : List Range) (items : List RowWords) (is : items ≡ map 
 
   pub read_exact : (S : NumberSet) → RunsOf n S R → TakesPrecisely n (rows_of n items) S
   read_exact S of = subst (λ rows. TakesPrecisely n rows S) (sym (read_set S of)) (set_rows.exact n S)
+
+-- the words of all rows, behind those that a list held
+module _ (n : ℕ) (R : List Range) (held items : List RowWords) (is : items ≡ held ++ map words_of (rows_of_ranges n (ranges_of R))) where
+  abbrev more : List RowWords
+  more = map words_of (rows_of_ranges n (ranges_of R))
+
+  -- behind them stand those that were added
+  behind : drop (length held) items ≡ more
+  behind = ap (drop (length held)) is ∙ drop-append_seam held more
+
+  pub added_within : AllByRecursion (λ w. w.care < 2 ^ n) (drop (length held) items)
+  added_within = made_within n R (drop (length held) items) behind
+
+  pub added_clean : AllByRecursion (λ w. bit_and w.value w.care ≡ w.value) (drop (length held) items)
+  added_clean = made_clean n R (drop (length held) items) behind
+
+  -- read back, they are the list of the set
+  pub read_added : (S : NumberSet) → RunsOf n S R → rows_of n (drop (length held) items) ≡ rows_of_set n S
+  read_added = read_set n R (drop (length held) items) behind
+
+  pub read_added_exact : (S : NumberSet) → RunsOf n S R → TakesPrecisely n (rows_of n (drop (length held) items)) S
+  read_added_exact = read_exact n R (drop (length held) items) behind

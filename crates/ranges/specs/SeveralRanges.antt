@@ -1,5 +1,5 @@
 -- What making the rows of several ranges answers.
-use Rattle.std.specs.Prelude.{◌≡◌, ℕ, ◌<◌, ◌≤◌, min, Bool, List, length, map, Ok, Err, Result}
+use Rattle.std.specs.Prelude.{◌≡◌, ℕ, ⊤, ◌-◌, ◌<◌, ◌≤◌, min, Bool, List, ◌++◌, length, map, Ok, Err, Result}
 use Rattle.std.specs.List.{flat_map, list_all}
 use Rattle.arrayvec.specs.ArrayVec.{ArrayVec}
 use Rattle.covers.specs.Rivals.{NumberSet}
@@ -30,3 +30,8 @@ RunsOf n S ranges = ranges_of ranges ≡ runs n S
 abbrev pub RowsMade : List Symbols → ℕ → Result (ArrayVec RowWords) Refusal → Type 0
 RowsMade rows room (Ok list) = (list.items ≡ map words_of rows) × (length rows ≤ min room 120)
 RowsMade rows room (Err e) = (e ≡ TooManyRows) × (min room 120 < length rows)
+
+-- the rows, added to a list; refused if they are more than there is room for, or than the list still takes
+abbrev pub RowsAdded : List Symbols → ℕ → ArrayVec RowWords → ArrayVec RowWords → Result ⊤ Refusal → Type 0
+RowsAdded rows room old new (Ok _) = (new.items ≡ old.items ++ map words_of rows) × (length rows ≤ min room (120 - length old.items))
+RowsAdded rows room old new (Err e) = (e ≡ TooManyRows) × (min room (120 - length old.items) < length rows)

@@ -28,14 +28,11 @@ impl Range {
         self.first < limit && self.last < limit
     }
 
-    // Whether the range has the number.
+    // Whether the range has the number: it is no more steps above the first number than the last one is, on the circle of
+    // all words. One comparison, since a processor cannot foresee which of several decides.
     pub fn contains(self, number: u64) -> bool
         ensures value { result ≡ in_range self.first self.last number }
     {
-        if self.first <= self.last {
-            self.first <= number && number <= self.last
-        } else {
-            self.first <= number || number <= self.last
-        }
+        number.wrapping_sub(self.first) <= self.last.wrapping_sub(self.first)
     }
 }

@@ -9,7 +9,7 @@ mod tests {
     use covers::symbol::Symbol;
     use covers::theorems::worked_examples;
     use ranges::range::{MOST_ROWS, rows_of_range};
-    use ranges::runs::rows_of_runs;
+    use ranges::runs::{RunRows, add_rows_of_runs, rows_of_runs};
     use rows::range::Range;
     use rows::refusal::Refusal;
     use rows::row::Row;
@@ -168,6 +168,36 @@ mod tests {
         assert_eq!(rt; rows_of_runs(width, &runs[0..3], usize::MAX)?.len(), 96);
         let too_many = rows_of_runs(width, &runs, usize::MAX).err();
         assert_eq!(rt; too_many, Some(Refusal::TooManyRows));
+        Ok(())
+    }
+    // The room is for the rows that are added; the list takes 120 in all.
+    #[test]
+    fn rows_of_runs_behind_others(rt: HostRuntime) -> Result<(), Fail> {
+        let width = Width::try_from(3)?;
+        let mut rows = RunRows::new();
+        rows.push(OLD);
+        let runs = [Range::new(1, 2), Range::new(4, 5)];
+        let too_many = add_rows_of_runs(width, &runs, 2, &mut rows);
+        assert_eq!(rt; too_many, Err(Refusal::TooManyRows));
+        let outside = add_rows_of_runs(width, &[Range::new(1, 2), Range::new(4, 8)], 1, &mut rows);
+        assert_eq!(rt; outside, Err(Refusal::NumberOutsideWidth));
+        assert_eq!(rt; rows.len(), 1);
+        assert_eq!(rt; rows[0], OLD);
+        add_rows_of_runs(width, &runs, 3, &mut rows)?;
+        assert_eq!(rt; rows.len(), 4);
+        assert_eq!(rt; rows[0], OLD);
+        assert_eq!(rt; rows[1], RowWords { value: 1, care: 7 });
+        assert_eq!(rt; rows[2], RowWords { value: 2, care: 7 });
+        assert_eq!(rt; rows[3], RowWords { value: 4, care: 6 });
+        // a whole circle at a time, until the list is full
+        for _ in rows.len()..120 {
+            add_rows_of_runs(width, &[Range::new(5, 4)], 1, &mut rows)?;
+        }
+        assert_eq!(rt; rows.len(), 120);
+        let full = add_rows_of_runs(width, &[Range::new(5, 4)], usize::MAX, &mut rows);
+        assert_eq!(rt; full, Err(Refusal::TooManyRows));
+        assert_eq!(rt; rows.len(), 120);
+        add_rows_of_runs(width, &runs[0..0], 0, &mut rows)?;
         Ok(())
     }
 }

@@ -111,24 +111,24 @@ impl EditedSet<'_> {
         }
     }
 
-    // The runs of the set in ascending order.
-    pub(super) fn new_runs(self) -> ArrayVec<Range, MOST_AFTER_EDIT>
+    // Puts the runs of the set in an empty list, in ascending order. The list is lent, not handed back: a move costs more
+    // than an edit of few runs.
+    pub(super) fn list_runs(self, out: &mut ArrayVec<Range, MOST_AFTER_EDIT>)
+        requires none { out.old.items ≡ [] }
         requires few { length self.runs.now ≤ 16 }
-        ensures runs { result.items ≡ all_runs self.entry }
+        ensures runs { out.new.items ≡ all_runs self.entry }
     {
-        let mut out = ArrayVec::new();
         let new = self.new_first();
         for run in self.runs {
             if run.first < new {
-                self.keep(run.first, &mut out);
+                self.keep(run.first, out);
             }
         }
-        self.keep(new, &mut out);
+        self.keep(new, out);
         for run in self.runs {
             if new < run.first {
-                self.keep(run.first, &mut out);
+                self.keep(run.first, out);
             }
         }
-        out
     }
 }

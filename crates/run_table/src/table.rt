@@ -3,6 +3,7 @@ ghost use Rattle.std.specs.Prelude.{◌≡◌, ℕ, ◌-◌, ◌^◌, ◌<◌, �
 
 use super::edited_set::EditedSet;
 use super::run::{MOST_RUNS, any_contains};
+use arrayvec::ArrayVec;
 use rows::edit::Edit;
 use rows::range::Range;
 use rows::refusal::Refusal;
@@ -98,7 +99,8 @@ impl RunTable {
             edit,
             width,
         };
-        let runs = set.new_runs();
+        let mut runs = ArrayVec::new();
+        set.list_runs(&mut runs);
         if runs.len() > MOST_RUNS {
             return Err(Refusal::TooManyRuns);
         }

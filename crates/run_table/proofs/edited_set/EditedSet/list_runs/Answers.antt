@@ -6,8 +6,8 @@ use Rattle.arrayvec.specs.ArrayVec.{ArrayVec}
 use Rattle.rows.specs.declared.range.Range.{Range}
 use Rattle.rows.proofs.Ranges.{no_range}
 use Rattle.run_table.proofs.Writing.{runs_at_more, runs_at_few, filter_takes, filter_leaves, front_few, all_firsts, so_far, so_far_takes, so_far_leaves, so_far_room}
-use Rattle.run_table.proofs.edited_set.EditedSet.new_runs.Goals as goal
-use Rattle.run_table.proofs.edited_set.EditedSet.new_runs.Goals.{then-run-new, else-run-new, then-new-run, else-new-run}
+use Rattle.run_table.proofs.edited_set.EditedSet.list_runs.Goals as goal
+use Rattle.run_table.proofs.edited_set.EditedSet.list_runs.Goals.{then-run-new, else-run-new, then-new-run, else-new-run}
 
 abbrev items : ArrayVec Range → List Range
 items v = v.items

@@ -2,7 +2,7 @@ use Rattle.std.proofs.Common.{◌≡◌, ltb, take, filter}
 use Rattle.run_table.specs.EditedSets.{runs_at_firsts}
 use Rattle.run_table.specs.NewRuns.{firsts_of}
 use Rattle.run_table.proofs.Writing.{so_far}
-use Rattle.run_table.proofs.edited_set.EditedSet.new_runs.Given as goal
+use Rattle.run_table.proofs.edited_set.EditedSet.list_runs.Given as goal
 
 -- the old firsts below the new one, so far
 abbrev pub invariant-loop-run : goal.invariant-loop-run
