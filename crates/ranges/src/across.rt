@@ -35,8 +35,7 @@ impl Across {
             return self.from_first().write(rows);
         }
         let rest = ends.behind_first_digits();
-        let place = rest.places;
-        match (has_one(ends.first, place), has_one(ends.last, place)) {
+        match (has_one(ends.first, rest.places), has_one(ends.last, rest.places)) {
             (true, false) => {
                 // both ends lie in the inner quarters
                 let lead = lead.with_digits(true, false);
