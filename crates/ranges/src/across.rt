@@ -35,14 +35,9 @@ impl Across {
             return self.from_first().write(rows);
         }
         let rest = ends.behind_first_digits();
-        match (has_one(ends.first, rest.places), has_one(ends.last, rest.places)) {
-            (true, false) => {
-                // both ends lie in the inner quarters
-                let lead = lead.with_digits(true, false);
-                let inner = Across { lead, ends: rest };
-                inner.from_first().write(rows);
-                inner.to_last().write(rows);
-            }
+        let place = rest.places;
+        match (has_one(ends.first, place), has_one(ends.last, place)) {
+            (true, false) => self.write_inner(rest, rows),
             (true, true) => {
                 // the third quarter is whole
                 rows.push(lead.one.with_digit(false).words);
@@ -66,6 +61,21 @@ impl Across {
                 self.write(rows);
             }
         }
+    }
+
+    // Both ends lie in the inner quarters.
+    fn write_inner(self, rest: Ends, rows: &mut RowList)
+        requires split { Split self.ends rest }
+        requires first_digit { digit rest.places self.ends.first ≡ true }
+        requires last_digit { digit rest.places self.ends.last ≡ false }
+        requires room { HasRoom rows.old (across_words self) }
+        ensures rows { Extends rows.old (across_words self) rows.new }
+    {
+        let Across { lead, ends: _ } = self;
+        let lead = lead.with_digits(true, false);
+        let inner = Across { lead, ends: rest };
+        inner.from_first().write(rows);
+        inner.to_last().write(rows);
     }
 
     // The ends lie in the outer quarters and are apart: both quarters between them are whole.

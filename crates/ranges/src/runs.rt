@@ -68,17 +68,17 @@ pub fn add_rows_of_runs(
         RowsAdded (rows_of_set (places_of width) S) room rows.old rows.new result }
     ensures by_the_rules { (S : NumberSet) → RunsOf (places_of width) S runs.now →
         OnOk result (rows_of (places_of width) (drop (array_vec_len rows.old) rows.new.items)
-            ≡ rows_of_set (places_of width) S) }
+        ≡ rows_of_set (places_of width) S) }
     ensures exact { (S : NumberSet) → RunsOf (places_of width) S runs.now →
         OnOk result (TakesPrecisely (places_of width)
-            (rows_of (places_of width) (drop (array_vec_len rows.old) rows.new.items)) S) }
+        (rows_of (places_of width) (drop (array_vec_len rows.old) rows.new.items)) S) }
     ensures few { OnOk result (array_vec_len rows.new
         ≤ array_vec_len rows.old + min room (120 - array_vec_len rows.old)) }
     ensures of_width { OnOk result (AllByRecursion (λ words. words.care < 2 ^ places_of width)
         (drop (array_vec_len rows.old) rows.new.items)) }
     ensures no_value_under_dashes { OnOk result
         (AllByRecursion (λ words. bit_and words.value words.care ≡ words.value)
-            (drop (array_vec_len rows.old) rows.new.items)) }
+        (drop (array_vec_len rows.old) rows.new.items)) }
     ensures untouched_when_refused { is_err result ≡ true → rows.new ≡ rows.old }
 {
     if !all_within(width, runs) {

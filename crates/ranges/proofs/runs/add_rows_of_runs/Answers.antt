@@ -66,7 +66,7 @@ returns-in-Err-clause-untouched_when_refused c = λ refused.
     let held = c.args.rows.now.items in
     let stayed = ap items (c.in-Err.ensures.untouched_when_refused refl) in
     ap (λ (l : List RowWords). record { items = l })
-      (c.truncate.ensures.items ∙ ap₂ (λ (k : ℕ) (l : List RowWords). take k l) c.len-before.ensures.value (stayed ∙ c.loop-run.invariant.0) ∙ take-append_seam held _)
+    (c.truncate.ensures.items ∙ ap₂ (λ (k : ℕ) (l : List RowWords). take k l) c.len-before.ensures.value (stayed ∙ c.loop-run.invariant.0) ∙ take-append_seam held _)
 
 pub loop-run-preserved : goal.loop-run-preserved
 loop-run-preserved c =

@@ -1,9 +1,8 @@
-use Rattle.std.proofs.Common.{List, [], ◌∷◌, ◌++◌, length, sym, ap, ap₂, ◌∙◌, arith, rules, length-append}
-use Rattle.rows.specs.declared.row_words.RowWords.{RowWords}
-use Rattle.ranges.specs.Building.{edge_words, zero_words}
-use Rattle.ranges.proofs.Adding.{followed, longer}
+use Rattle.std.proofs.Common.{[], ◌∷◌, length, sym, ap, ◌∙◌, arith, rules}
+use Rattle.ranges.specs.Building.{edge_words}
+use Rattle.ranges.proofs.Adding.{followed}
 use Rattle.ranges.proofs.SplitEnds.{at_top, below_top}
-use Rattle.ranges.proofs.AcrossLists.{to_highest_at, second_quarter_at, third_quarter_at, ends_overlap_at, inner_quarters_at}
+use Rattle.ranges.proofs.AcrossLists.{to_highest_at, second_quarter_at, third_quarter_at, ends_overlap_at}
 use Rattle.ranges.proofs.across.Across.+write.Goals as goal
 
 pub write-requires : goal.write-requires
@@ -19,35 +18,6 @@ returns-then-reaches_highest t c =
     let one = c.args.self.now.lead.one.words in
     let all = to_highest_at c.args.self.now c.if-ends-eq0.false (at_top _ _ c.reaches_highest.ensures.value c.if-reaches_highest.true) in
     record { rows = followed c.args.rows.now.items (one ∷ []) (edge_words c.from_first.result) c.push.ensures.items c.write.ensures.rows (all ∙ ap (λ l. one ∷ l) (sym c.from_first.ensures.words)) }
-
--- both ends lie in the inner quarters
-pub write-requires-in-true-false : goal.write-requires-in-true-false
-write-requires-in-true-false t c =
-    let rest = c.behind_first_digits-rest in
-    let all = inner_quarters_at c.args.self.now rest.result rest.ensures.split (sym c.in-true-false.ensures.value) (sym c.in-true-false.ensures'.value) c.with_digits-lead.ensures.digits in
-    let k = ap length all ∙ length-append (zero_words c.with_digits-lead.result rest.result) _ in
-    let n = ap length c.from_first-in-true-false.ensures.words in
-    let room = c.requires.room in
-    record { room = omega arith }
-
-pub write-requires-in-true-false-2 : goal.write-requires-in-true-false-2
-write-requires-in-true-false-2 t c =
-    let rest = c.behind_first_digits-rest in
-    let all = inner_quarters_at c.args.self.now rest.result rest.ensures.split (sym c.in-true-false.ensures.value) (sym c.in-true-false.ensures'.value) c.with_digits-lead.ensures.digits in
-    let k = ap length all ∙ length-append (zero_words c.with_digits-lead.result rest.result) _ in
-    let n = ap length c.from_first-in-true-false.ensures.words in
-    let m = ap length c.to_last.ensures.words in
-    let room = c.requires.room in
-    let more = longer c.args.rows.now.items (edge_words c.from_first-in-true-false.result) c.write-in-true-false.ensures.rows in
-    record { room = omega arith }
-
-pub returns-in-true-false : goal.returns-in-true-false
-returns-in-true-false t c =
-    let rest = c.behind_first_digits-rest in
-    let all = inner_quarters_at c.args.self.now rest.result rest.ensures.split (sym c.in-true-false.ensures.value) (sym c.in-true-false.ensures'.value) c.with_digits-lead.ensures.digits in
-    let low = c.from_first-in-true-false in
-    let high = c.to_last in
-    record { rows = followed c.args.rows.now.items (edge_words low.result) (edge_words high.result) c.write-in-true-false.ensures.rows c.write-in-true-false-2.ensures.rows (all ∙ ap₂ (λ (l h : List RowWords). l ++ h) (sym low.ensures.words) (sym high.ensures.words)) }
 
 -- the third quarter is whole
 pub write-requires-in-true-true : goal.write-requires-in-true-true
