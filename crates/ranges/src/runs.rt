@@ -53,7 +53,7 @@ pub fn rows_of_runs(width: Width, runs: &[Range], room: usize) -> Result<RunRows
 /// Where the runs are those of a set, the rows that are added take precisely the set.
 ///
 /// It is the one function that makes the rows of a set for a filter: another maker of rows is to stand in its place. The
-/// list is lent, since a list for 120 rows takes longer to hand back than the rows of a run take to make.
+/// list is lent, since one for 120 rows takes longer to hand back than the rows of a short run take to make.
 pub fn add_rows_of_runs(
     width: Width,
     runs: &[Range],

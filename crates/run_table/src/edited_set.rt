@@ -111,8 +111,7 @@ impl EditedSet<'_> {
         }
     }
 
-    // Puts the runs of the set in an empty list, in ascending order. The list is lent, not handed back: a move costs more
-    // than an edit of few runs.
+    // Puts the runs of the set in an empty list, in ascending order. The list is lent, so that it is not moved.
     pub(super) fn list_runs(self, out: &mut ArrayVec<Range, MOST_AFTER_EDIT>)
         requires none { out.old.items ≡ [] }
         requires few { length self.runs.now ≤ 16 }
